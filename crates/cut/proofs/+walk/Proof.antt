@@ -1,0 +1,226 @@
+-- The proof of the cycle of calls {walk}. The measure is the number of values still to be laid.
+-- The loop's invariant: `found` is the best once the bundles up to `bundle` are tried. Assumes nothing.
+use mathlib.Core.Path.{_≡_, refl, sym, ap, _∙_}
+use mathlib.Core.List.{List, [], _∷_}
+use Prim.Native.Nat.{ℕ, _+_, _-_, _≤_, _<_, min}
+use native.Mathlib.Omega.{arith}
+use lib.ListN.{length, getD, take, drop}
+use mir.Syntax.{w64}
+use borrow.Kind.Array.{eInt, good-length}
+use Rattle.lists.specs.Sums.{total}
+use Rattle.lists.proofs.LeastOf.{leastOf-le}
+use Rattle.sheet.specs.Limits.{mostAgents}
+use Rattle.cut.specs.internal.Scan.{loadOf}
+use Rattle.cut.specs.internal.Walk.{walked}
+use Rattle.cut.specs.declared.Best.{Best}
+use Rattle.cut.proofs.Walked.{first-and-rest, walkedUpTo, walked-short, walked-end, walked-all, walkedUpTo-next, ready-next}
+use borrow.Fn.Kinds.{In}
+use borrow.Fn.PlainCycle.{Measures, is, falls, and}
+use Rattle.cut.proofs.walk.Reads as walk
+use Rattle.cut.proofs.walk.Kinds as walk-kinds
+use Rattle.cut.proofs.+walk.Lts-walk as lts
+use Rattle.cut.proofs.greater.Reads as greater-reads
+use Rattle.cut.proofs.is_short.Reads as is-short-reads
+use Rattle.cut.proofs.least.Reads as least-reads
+use Rattle.cut.proofs.open_bundles.Reads as open-bundles-reads
+use Rattle.cut.proofs.+walk.{statement}
+use Rattle.cut.proofs.+walk.Tie.{close}
+
+-- a list without an entry
+empty : (l : List ℕ) → length l ≡ 0 → l ≡ []
+empty [] none = refl
+empty (x ∷ l) none = absurd (omega arith)
+
+abbrev μ-walk : Measures 1 walk-kinds.ps ℕ
+μ-walk κs a = length (a .0 .now)
+
+abbrev walk-at : ℕ → In 1 walk-kinds.ps
+walk-at t = and 1 walk-kinds.ps (is 1 walk-kinds.ps μ-walk t) walk.Pre
+
+abbrev walk-below : ℕ → In 1 walk-kinds.ps
+walk-below t = and 1 walk-kinds.ps (falls 1 walk-kinds.ps _<_ μ-walk t) walk.Pre
+
+-- what a call of each function asks and tells
+abbrev claims : ℕ → lts.Claims
+claims t = (
+  is-short-reads.Asked,
+  is-short-reads.Learnt,
+  least-reads.Asked,
+  least-reads.Learnt,
+  open-bundles-reads.Asked,
+  open-bundles-reads.Learnt,
+  greater-reads.Asked,
+  greater-reads.Learnt,
+  walk-below t,
+  walk.Post,
+)
+
+abbrev Inv-loop : lts.InvT-loop
+Inv-loop values bundles at used partition loads goal value rest limit found₀ bundle₀ found bundle =
+    (bundle ≤ limit) × (found ≡ walkedUpTo bundles at used loads partition found₀ value rest bundle)
+
+abbrev μ-loop : lts.MeasureT-loop
+μ-loop values bundles at used partition loads goal value rest limit found₀ bundle₀ found bundle = limit - bundle
+
+module _ (t : ℕ) where
+  abbrev Start : Type 0
+  Start = lts.Start (claims t) (walk-at t) walk.Post Inv-loop μ-loop
+
+  loads-places : (s : Start) → length (s .args .t5) ≡ mostAgents
+  loads-places s = good-length (eInt w64) mostAgents (s .args .t5) _ (s .good .1 .1 .1 .1 .0)
+
+  -- what is left to lay, where something is
+  values-are : (s : Start) → (length (s .args .values .now) ≡ 0 → ⊥) → let vs = s .args .values .now in vs ≡ getD vs 0 0 ∷ take (length vs - 1) (drop 1 vs)
+  values-are s some = first-and-rest (s .args .values .now) (omega arith)
+
+  is-short-requires : lts.Need-is-short-requires (claims t) (walk-at t) walk.Post Inv-loop μ-loop
+  is-short-requires c κs = let r = c .before .pre .1 in (record { few = omega (arith, r .few); light = omega (arith, r .light 0) }, r .few-bundles)
+
+  returns : lts.Need-returns (claims t) (walk-at t) walk.Post Inv-loop μ-loop
+  returns c =
+      let a = c .before .before .before .args in
+      sym (walked-short (a .bundles) (a .at) (a .used) (a .t5) (a .partition) (a .best) (a .values .now) (sym (c .before .is-short .ensures) ∙ c .if1 .taken))
+
+  least-requires : lts.Need-least-requires (claims t) (walk-at t) walk.Post Inv-loop μ-loop
+  least-requires c κs = omega arith
+
+  add-t24 : lts.Need-add-t24 (claims t) (walk-at t) walk.Post Inv-loop μ-loop
+  add-t24 c =
+      let s = c .before .before .before .before .before in
+      let r = s .pre .1 in
+      omega (arith, r .light 0, c .least .ensures, leastOf-le (loadOf (s .args .t5)) (s .args .bundles) 1 (omega arith) (r .some-bundles))
+
+  returns-2 : lts.Need-returns-2 (claims t) (walk-at t) walk.Post Inv-loop μ-loop
+  returns-2 c =
+      let s = c .before .before .before .before .before in
+      let a = s .args in
+      let last : ℕ → Best = λ low. record { goal = low + 1; partition = a .partition } in
+      let none : a .values .now ≡ [] = empty (a .values .now) (c .before .if2 .taken) in
+      let passes = sym (c .before .before .before .is-short .ensures) ∙ c .before .before .if1 .left in
+      rw none (ap last (c .least .ensures)
+      ∙ sym (walked-end (a .bundles) (a .at) (a .used) (a .t5) (a .partition) (a .best) (s .pre .1 .some-bundles) (rw none at passes)))
+
+  shared-slice-read-value : lts.Need-shared-slice-read-value (claims t) (walk-at t) walk.Post Inv-loop μ-loop
+  shared-slice-read-value c = omega arith
+
+  sub-rest : lts.Need-sub-rest (claims t) (walk-at t) walk.Post Inv-loop μ-loop
+  sub-rest c = omega arith
+
+  part-rest-start : lts.Need-part-rest-start (claims t) (walk-at t) walk.Post Inv-loop μ-loop
+  part-rest-start c = omega arith
+
+  part-rest-end : lts.Need-part-rest-end (claims t) (walk-at t) walk.Post Inv-loop μ-loop
+  part-rest-end c = omega arith
+
+  open-bundles-requires : lts.Need-open-bundles-requires (claims t) (walk-at t) walk.Post Inv-loop μ-loop
+  open-bundles-requires c κs = omega arith
+
+  loop-holds : lts.Need-loop-holds (claims t) (walk-at t) walk.Post Inv-loop μ-loop
+  loop-holds c = (omega arith, refl)
+
+  mul-loaded : lts.Need-mul-loaded (claims t) (walk-at t) walk.Post Inv-loop μ-loop
+  mul-loaded c = omega arith
+
+  array-read-loaded : lts.Need-array-read-loaded (claims t) (walk-at t) walk.Post Inv-loop μ-loop
+  array-read-loaded c = omega arith
+
+  add-loaded : lts.Need-add-loaded (claims t) (walk-at t) walk.Post Inv-loop μ-loop
+  add-loaded c =
+      let s = c .before .before .before .before .before .before .before .before .before in
+      let r = s .pre .1 in
+      omega (arith, r .light (c .before .loop .bundle), ap total (values-are s (c .before .before .before .before .before .if2 .left)))
+
+  mul-loaded-2 : lts.Need-mul-loaded-2 (claims t) (walk-at t) walk.Post Inv-loop μ-loop
+  mul-loaded-2 c = omega arith
+
+  array-write-loaded : lts.Need-array-write-loaded (claims t) (walk-at t) walk.Post Inv-loop μ-loop
+  array-write-loaded c = omega arith
+
+  cast-longer : lts.Need-cast-longer (claims t) (walk-at t) walk.Post Inv-loop μ-loop
+  cast-longer c = omega arith
+
+  add-longer : lts.Need-add-longer (claims t) (walk-at t) walk.Post Inv-loop μ-loop
+  add-longer c = omega arith
+
+  array-write-longer : lts.Need-array-write-longer (claims t) (walk-at t) walk.Post Inv-loop μ-loop
+  array-write-longer c = omega arith
+
+  add-greater : lts.Need-add-greater (claims t) (walk-at t) walk.Post Inv-loop μ-loop
+  add-greater c = omega arith
+
+  greater-requires : lts.Need-greater-requires (claims t) (walk-at t) walk.Post Inv-loop μ-loop
+  greater-requires c κs = tt
+
+  add-walk : lts.Need-add-walk (claims t) (walk-at t) walk.Post Inv-loop μ-loop
+  add-walk c = omega arith
+
+  walk-requires : lts.Need-walk-requires (claims t) (walk-at t) walk.Post Inv-loop μ-loop
+  walk-requires c κs =
+      let s = c .before .before .before .before .before .before .before .before .before .before in
+      let a = s .args in
+      let vs = a .values .now in
+      let parts = values-are s (c .before .before .before .before .before .before .if2 .left) in
+      let next = ready-next (a .bundles) (a .at) (a .used) (a .t5) (a .partition) (a .best) (getD vs 0 0) (take (length vs - 1) (drop 1 vs)) (rw parts at (s .pre .1))
+      (c .before .before .loop .bundle) (omega arith) (omega (arith, s .pre .1 .few-bundles, loads-places s)) in
+      (omega (arith, s .pre .0, ap length parts), rw (c .greater .ensures) next)
+
+  add-bundle : lts.Need-add-bundle (claims t) (walk-at t) walk.Post Inv-loop μ-loop
+  add-bundle c = omega arith
+
+  loop-less : lts.Need-loop-less (claims t) (walk-at t) walk.Post Inv-loop μ-loop
+  loop-less c = omega arith
+
+  loop-again : lts.Need-loop-again (claims t) (walk-at t) walk.Post Inv-loop μ-loop
+  loop-again c =
+      let at-loop = c .before .before .before in
+      let s = at-loop .before .before .before .before .before .before .before .before in
+      let a = s .args in
+      let vs = a .values .now in (
+        omega arith,
+        rw (c .before .greater .ensures, at-loop .loop .inv .1) at (c .walk .ensures)
+            ∙ sym (walkedUpTo-next (a .bundles) (a .at) (a .used) (a .t5) (a .partition) (a .best) (getD vs 0 0) (take (length vs - 1) (drop 1 vs)) (at-loop .loop .bundle)
+            (omega (arith, s .pre .1 .few-bundles, loads-places s))),
+      )
+
+  returns-3 : lts.Need-returns-3 (claims t) (walk-at t) walk.Post Inv-loop μ-loop
+  returns-3 c =
+      let s = c .before .before .before .before .before .before .before .before .before in
+      let a = s .args in
+      let vs = a .values .now in
+      let parts = values-are s (c .before .before .before .before .before .if2 .left) in
+      let e : c .before .loop .bundle ≡ min (a .used + 1) (a .bundles) = omega (arith, c .before .before .open-bundles .ensures) in
+      c .before .loop .inv .1
+      ∙ ap (walkedUpTo (a .bundles) (a .at) (a .used) (a .t5) (a .partition) (a .best) (getD vs 0 0) (take (length vs - 1) (drop 1 vs))) e
+      ∙ sym (walked-all (a .bundles) (a .at) (a .used) (a .t5) (a .partition) (a .best) (getD vs 0 0) (take (length vs - 1) (drop 1 vs)))
+      ∙ ap (λ l. walked l (a .bundles) (a .at) (a .used) (a .t5) (a .partition) (a .best)) (sym parts)
+
+pub +walk-spec : {M : Type 1} → statement M
++walk-spec =
+    close μ-walk λ t. lts.spec (claims t) (walk-at t) walk.Post Inv-loop μ-loop
+    (is-short-requires t)
+    (returns t)
+    (least-requires t)
+    (add-t24 t)
+    (returns-2 t)
+    (shared-slice-read-value t)
+    (sub-rest t)
+    (part-rest-start t)
+    (part-rest-end t)
+    (open-bundles-requires t)
+    (loop-holds t)
+    (mul-loaded t)
+    (array-read-loaded t)
+    (add-loaded t)
+    (mul-loaded-2 t)
+    (array-write-loaded t)
+    (cast-longer t)
+    (add-longer t)
+    (array-write-longer t)
+    (add-greater t)
+    (greater-requires t)
+    (add-walk t)
+    (walk-requires t)
+    (add-bundle t)
+    (loop-less t)
+    (loop-again t)
+    (returns-3 t)

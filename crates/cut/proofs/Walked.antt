@@ -1,0 +1,97 @@
+-- One step of the walk: its end, a branch that it leaves, and its branches one after the other. Assumes nothing.
+use mathlib.Core.Path.{_≡_, sym, ap, ap₂, fun-ext, _∙_}
+use mathlib.Core.Bool.{true, false}
+use mathlib.Core.Logic.{⊎-elim}
+use mathlib.Core.List.{List, [], _∷_, _++_}
+use Prim.Native.Nat.{ℕ, _+_, _-_, _≤_, _<_, min, max}
+use native.Mathlib.Nat.{add-zero, add-comm}
+use native.Mathlib.Numerals.{add-one}
+use native.Mathlib.Omega.{arith}
+use lib.ListN.{length, getD, take, drop, set}
+use lib.Seq.{sets, getD-set-same, getD-set-other}
+use borrow.Rule.Slice.PartAt.{part-to-end}
+use Rattle.lists.specs.Lists.{range}
+use Rattle.lists.specs.Sums.{leastOf}
+use Rattle.lists.specs.Dictionary.{branches}
+use Rattle.lists.proofs.Cases.{eq-or-ne}
+use Rattle.lists.proofs.Ranges.{range-append}
+use Rattle.lists.proofs.LeastOf.{leastOf-cong, le-leastOf}
+use Rattle.lists.proofs.Listed.{branches-append}
+use Rattle.cut.specs.Share.{bundleValue}
+use Rattle.cut.specs.internal.Scan.{growthPartitions, scan, loadOf, leastLoaded}
+use Rattle.cut.specs.internal.Walk.{isShort, Ready, walked}
+use Rattle.cut.specs.declared.Best.{Best}
+use Rattle.cut.proofs.Scan.{keep-new, scan-append, scan-idle}
+use Rattle.cut.proofs.Growth.{loaded, scan-branch}
+use Rattle.cut.proofs.Threshold.{short-of-goal, enough}
+use Rattle.cut.proofs.Loads.{load-stored}
+
+-- values that are not empty are the first and, as a part of the slice, the others
+pub first-and-rest : (values : List ℕ) → 1 ≤ length values → values ≡ getD values 0 0 ∷ take (length values - 1) (drop 1 values)
+first-and-rest [] some = absurd (omega arith)
+first-and-rest (value ∷ rest) some = ap (λ r. value ∷ r) (sym (part-to-end (value ∷ rest) 1))
+
+module _ (bundles at used : ℕ) (loads partition : List ℕ) (best : Best) where
+  -- where the values cannot supply what the bundles lack, nothing is better
+  pub walked-short : (values : List ℕ) → isShort (best .goal) (loadOf loads) bundles values ≡ true → walked values bundles at used loads partition best ≡ best
+  unfolding walked
+  walked-short values short =
+      scan-idle (leastLoaded bundles (loadOf loads) values) (sets partition at) best (growthPartitions bundles used (length values))
+      (λ l _. short-of-goal (best .goal) (loadOf loads) bundles values l short)
+
+  -- all values are laid, and no bundle lacks anything of the goal
+  pub walked-end : 1 ≤ bundles → isShort (best .goal) (loadOf loads) bundles [] ≡ false
+      → walked [] bundles at used loads partition best ≡ record { goal = leastOf (loadOf loads) bundles + 1; partition = partition }
+  unfolding walked
+  walked-end some passes =
+      let low : leastLoaded bundles (loadOf loads) [] [] ≡ leastOf (loadOf loads) bundles = leastOf-cong (λ c. loadOf loads c + 0) (loadOf loads) bundles (λ c _ _. add-zero (loadOf loads c)) in
+      rw low
+      (keep-new (leastOf (loadOf loads) bundles) partition best (le-leastOf (loadOf loads) bundles (best .goal) some (enough (best .goal) (loadOf loads) bundles passes)))
+
+  module _ (value : ℕ) (rest : List ℕ) where
+    -- the best once the partitions that lay the next value on one of the bundles 1 .. bundle are tried
+    abbrev pub walkedUpTo : ℕ → Best
+    walkedUpTo bundle =
+        scan (leastLoaded bundles (loadOf loads) (value ∷ rest)) (sets partition at) best
+        (branches (λ c. growthPartitions bundles (max used c) (length rest)) (range 1 bundle))
+
+    -- a walk tries the bundles in use and the next new one
+    pub walked-all : walked (value ∷ rest) bundles at used loads partition best ≡ walkedUpTo (min (used + 1) bundles)
+    unfolding walked
+    walked-all = rw (add-one used)
+
+    -- one bundle more
+    pub walkedUpTo-next : (bundle : ℕ) → bundle < length loads
+        → walkedUpTo (bundle + 1)
+        ≡ walked rest bundles (at + 1) (max used (bundle + 1)) (set loads bundle (getD loads bundle 0 + value)) (set partition at (bundle + 1)) (walkedUpTo bundle)
+    unfolding walked
+    walkedUpTo-next bundle inside =
+        let c = bundle + 1 in
+        let next : ℕ → List (List ℕ) = λ c. growthPartitions bundles (max used c) (length rest) in
+        let load = loadOf loads in
+        let more : range 1 c ≡ range 1 bundle ++ (c ∷ []) = range-append 1 bundle 1 ∙ ap (λ k. range 1 bundle ++ (k ∷ [])) (add-comm 1 bundle) in
+        let reach = leastLoaded bundles load (value ∷ rest) in
+        let tried = walkedUpTo bundle in
+        let stored : (λ l. leastLoaded bundles (loaded load c value) rest l) ≡ leastLoaded bundles (loadOf (set loads bundle (getD loads bundle 0 + value))) rest =
+        fun-ext (λ l. leastOf-cong _ _ bundles (λ d pos _. ap (λ x. x + bundleValue d rest l) (load-stored loads bundle value d inside pos))) in
+        ap (λ r. scan reach (sets partition at) best (branches next r)) more
+        ∙ ap (scan reach (sets partition at) best) (branches-append next (range 1 bundle) (c ∷ []))
+        ∙ scan-append reach (sets partition at) best (branches next (range 1 bundle)) (branches next (c ∷ []))
+        ∙ scan-branch bundles load value rest (sets partition at) next tried c []
+        ∙ ap₂ (λ v k. scan v (sets (set partition at c) k) tried (next c)) stored (sym (add-one at))
+
+    -- the next value is laid
+    pub ready-next : Ready (value ∷ rest) bundles at used loads → (bundle : ℕ) → bundle < bundles → bundle < length loads
+        → Ready rest bundles (at + 1) (max used (bundle + 1)) (set loads bundle (getD loads bundle 0 + value))
+    ready-next r bundle in-bundles inside =
+        let m = getD loads bundle 0 + value in
+        record {
+          few = omega (arith, r .few);
+          some-bundles = r .some-bundles;
+          few-bundles = r .few-bundles;
+          opened = omega (arith, r .opened);
+          light = λ i. ⊎-elim
+              (λ (e : i ≡ bundle). rw (e, getD-set-same loads bundle m 0 inside) (omega (arith, r .light bundle)))
+              (λ ne. rw (getD-set-other loads bundle i m 0 ne) (omega (arith, r .light i)))
+              (eq-or-ne i bundle);
+        }

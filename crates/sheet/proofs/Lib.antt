@@ -1,0 +1,2 @@
+-- Laws of sets of items.
+pub mod Sets
