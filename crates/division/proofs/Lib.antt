@@ -1,0 +1,20 @@
+-- The laws of the definitions, and the theorems of the demands.
+pub mod Samples
+pub mod Deficit
+pub mod Partition
+pub mod Sort
+pub mod Refine
+pub mod Ratio
+pub mod Splitting
+pub mod Core
+pub mod Regroup
+pub mod Density
+pub mod Bundles
+pub mod Held
+pub mod Round
+pub mod Invariant
+pub mod Rounds
+pub mod Profile
+pub mod Allocation
+pub mod Answer
+pub mod Theorems

@@ -1,0 +1,6 @@
+-- Laws of the waiting set and of the matching, Hall's theorem among them.
+pub mod Waiting
+pub mod Matching
+pub mod Hall
+pub mod Serving
+pub mod Ties

@@ -1,0 +1,1 @@
+// Which agents (yards) wait, and which bundles (piles) the others are matched with.
