@@ -229,9 +229,10 @@ pub fn cut(valuation: Row, set: u16, bundles: u8) -> Outcome
     let chosen = choose(valuation, set);
     let values = chosen.values;
     let count = chosen.count;
+    let blank = [0u8; Sheet::PIECES];
     let none = Best {
         goal: 0,
-        partition: [0; Sheet::PIECES],
+        partition: blank,
     };
     let best = walk(
         &values[..count],
@@ -239,7 +240,7 @@ pub fn cut(valuation: Row, set: u16, bundles: u8) -> Outcome
         0,
         0,
         [0; Sheet::YARDS],
-        [0; Sheet::PIECES],
+        blank,
         none,
     );
     let partition = best.partition;

@@ -40,7 +40,7 @@ refuse-requires-3 c κs = tt
 returns-3 : tie.Need-returns-3
 unfolding cutting
 returns-3 c =
-    simp (le-leb _ _ (c .before .before .before .if1 .left), le-leb _ _ (c .before .before .if2 .left), namesItems-above (c .before .before .before .before .args .set) (c .before .if3 .taken) (omega arith))
+    simp (le-leb _ _ (c .before .before .before .if1 .left), le-leb _ _ (c .before .before .if2 .left), namesItems-above (c .before .before .before .before .args .set) (omega arith) (omega arith))
     (c .refuse3 .ensures)
 
 choose-requires : tie.Need-choose-requires
