@@ -1,5 +1,5 @@
 -- What the answer of a cut says of the lent places. Assumes nothing.
-use mathlib.Core.Path.{_≡_, refl, ap, _∙_}
+use mathlib.Core.Path.{_≡_, refl}
 use mathlib.Core.List.{List}
 use Prim.Native.Nat.{ℕ}
 use Rattle.cut.specs.Outcome.{Cutting, refused, shared, outcome}

@@ -1,7 +1,7 @@
 -- `cut_c::cut_row` meets its contract, by what `cut::cut` ensures and the case of its answer. Assumes nothing.
-use mathlib.Core.Path.{_≡_, refl, sym, ap, _∙_}
+use mathlib.Core.Path.{sym, ap, _∙_}
 use borrow.Author.Needs.{needs}
-use Rattle.cut.specs.Outcome.{cutting, outcome}
+use Rattle.cut.specs.Outcome.{cutting}
 use Rattle.cut_c.proofs.Lent.{lent-refused, lent-shared}
 use Rattle.cut_c.proofs.cut_row.Statement.{statement}
 use Rattle.cut_c.proofs.cut_row.Tie as tie

@@ -1,0 +1,24 @@
+-- Laws of the definitions, which several functions' proofs cite, and the samples by computation.
+pub mod SameLaws
+pub mod LexemeLaws
+pub mod TokenLaws
+pub mod NumberLaws
+pub mod FormLaws
+pub mod RowLaws
+pub mod LineLaws
+pub mod ShapeLaws
+pub mod TableLaws
+pub mod AnswerLaws
+pub mod Samples
+pub mod DecimalLaws
+pub mod SpellingLaws
+pub mod SheetTokenLaws
+pub mod SheetSpellingLaws
+pub mod ReaderInverseLaws
+pub mod TokensReadLaws
+pub mod InUseLaws
+pub mod WithinLimitsLaws
+pub mod TextLengthLaws
+pub mod AcceptedLaws
+pub mod RoundTrip
+pub mod StrictTextSamples

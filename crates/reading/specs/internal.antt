@@ -1,0 +1,5 @@
+-- What the contracts of the private functions cite. No contract of a public function cites these.
+pub mod Places
+pub mod Kept
+pub mod Results
+pub mod SheetTokens
