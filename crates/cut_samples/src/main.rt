@@ -15,9 +15,21 @@ fn main() {
     show(row(3, 3, 2, 2, 2, 0, 0), 4, 6);
     show(row(1, 2, 3, 4, 5, 6, 7), 85, 2);
     // Twelve items at the greatest mark.
-    show([Sheet::GREATEST_MARK as u16; Sheet::PIECES], Sheet::SETS - 1, 1);
-    show([Sheet::GREATEST_MARK as u16; Sheet::PIECES], Sheet::SETS - 1, 5);
-    show([Sheet::GREATEST_MARK as u16; Sheet::PIECES], Sheet::SETS - 1, 6);
+    show(
+        [Sheet::GREATEST_MARK as u16; Sheet::PIECES],
+        Sheet::SETS - 1,
+        1,
+    );
+    show(
+        [Sheet::GREATEST_MARK as u16; Sheet::PIECES],
+        Sheet::SETS - 1,
+        5,
+    );
+    show(
+        [Sheet::GREATEST_MARK as u16; Sheet::PIECES],
+        Sheet::SETS - 1,
+        6,
+    );
     // No bundle, seven bundles, an item above the last, both.
     show(row(1, 2, 3, 4, 5, 6, 7), 127, 0);
     show(row(1, 2, 3, 4, 5, 6, 7), 127, 7);

@@ -38,7 +38,7 @@ fn same_token(s: &[u8], t: Token, form: &[u8], f: Token) -> bool
 }
 
 // The place after the tokens of the form's text, where they are the next.
-pub fn follow(s: &[u8], c: Cursor, form: &[u8]) -> Followed
+pub(crate) fn follow(s: &[u8], c: Cursor, form: &[u8]) -> Followed
     requires { ⌜ c .at ≤ length (now s) ⌝ }
     ensures { λ r. ⌜ Follows (now (s .entry)) r (Grammar.follow (tokens (now (form .entry))) (tokensAt (now (s .entry)) c)) ⌝ }
 {
@@ -57,7 +57,7 @@ pub fn follow(s: &[u8], c: Cursor, form: &[u8]) -> Followed
 }
 
 // A number of at most so many digits.
-pub fn read_number(s: &[u8], c: Cursor, most: usize) -> Number
+pub(crate) fn read_number(s: &[u8], c: Cursor, most: usize) -> Number
     requires { ⌜ c .at ≤ length (now s) ⌝ }
     requires { ⌜ most ≤ 19 ⌝ }
     ensures { λ r. ⌜ ReadsNumber (now (s .entry)) r (number most (tokensAt (now (s .entry)) c)) ⌝ }
@@ -74,7 +74,7 @@ pub fn read_number(s: &[u8], c: Cursor, most: usize) -> Number
 }
 
 // A form's text, and then a number of at most so many digits.
-pub fn number_after(s: &[u8], c: Cursor, form: &[u8], most: usize) -> Number
+pub(crate) fn number_after(s: &[u8], c: Cursor, form: &[u8], most: usize) -> Number
     requires { ⌜ c .at ≤ length (now s) ⌝ }
     requires { ⌜ most ≤ 19 ⌝ }
     ensures { λ r. ⌜ ReadsNumber (now (s .entry)) r (numberAfter (tokens (now (form .entry))) most (tokensAt (now (s .entry)) c)) ⌝ }

@@ -48,7 +48,7 @@ pub enum Lines {
 }
 
 // (sheet (yards 2) (pieces 3))
-pub fn read_head(s: &[u8], c: Cursor) -> Head
+pub(crate) fn read_head(s: &[u8], c: Cursor) -> Head
     requires { ⌜ c .at ≤ length (now s) ⌝ }
     ensures { λ r. ⌜ ReadsHead (now (s .entry)) r (head (tokensAt (now (s .entry)) c)) ⌝ }
 {
@@ -148,7 +148,7 @@ fn yard_line(s: &[u8], c: Cursor, turn: usize, pieces: usize) -> Marks
 }
 
 // The lines of the yards, from yard 1 upward.
-pub fn yard_lines(s: &[u8], c: Cursor, yards: usize, pieces: usize) -> Lines
+pub(crate) fn yard_lines(s: &[u8], c: Cursor, yards: usize, pieces: usize) -> Lines
     requires { ⌜ c .at ≤ length (now s) ⌝ }
     requires { ⌜ yards ≤ mostAgents ⌝ }
     requires { ⌜ pieces ≤ mostItems ⌝ }
@@ -170,7 +170,7 @@ pub fn yard_lines(s: &[u8], c: Cursor, yards: usize, pieces: usize) -> Lines
 }
 
 // The table of the yard lines, which is blank where one of them is missing.
-pub fn rows(s: &[u8], c: Cursor, yards: usize, pieces: usize) -> Table
+pub(crate) fn rows(s: &[u8], c: Cursor, yards: usize, pieces: usize) -> Table
     requires { ⌜ c .at ≤ length (now s) ⌝ }
     requires { ⌜ yards ≤ mostAgents ⌝ }
     requires { ⌜ pieces ≤ mostItems ⌝ }
@@ -193,7 +193,7 @@ pub fn rows(s: &[u8], c: Cursor, yards: usize, pieces: usize) -> Table
 }
 
 // Whether the line `(end)` and the end of the text stand here.
-pub fn end_line(s: &[u8], c: Cursor) -> bool
+pub(crate) fn end_line(s: &[u8], c: Cursor) -> bool
     requires { ⌜ c .at ≤ length (now s) ⌝ }
     ensures { λ r. ⌜ r ≡ endLine (tokensAt (now (s .entry)) c) ⌝ }
 {

@@ -34,7 +34,7 @@ fn no_leading_zero(w: &[u8]) -> bool
 }
 
 // Whether the bytes are a number in one to `most` digits.
-pub fn is_number(w: &[u8], most: usize) -> bool
+pub(crate) fn is_number(w: &[u8], most: usize) -> bool
     ensures { λ r. ⌜ r ≡ isNumber most (now (w .entry)) ⌝ }
 {
     if w.len() == 0 {
@@ -50,7 +50,7 @@ pub fn is_number(w: &[u8], most: usize) -> bool
 }
 
 // The number that digits stand for: nineteen digits fit 64 bits.
-pub fn decimal(w: &[u8]) -> u64
+pub(crate) fn decimal(w: &[u8]) -> u64
     requires { ⌜ length (now w) ≤ 19 ⌝ }
     requires { ⌜ allDigits (now w) ≡ true ⌝ }
     ensures { λ r. ⌜ r ≡ digitsAfter 0 (now (w .entry)) ⌝ }

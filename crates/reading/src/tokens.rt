@@ -22,7 +22,7 @@ pub struct Token {
 
 impl Cursor {
     // The place before the first byte, where a line begins.
-    pub fn start() -> Cursor
+    pub(crate) fn start() -> Cursor
         ensures { λ r. ⌜ (r .at ≡ 0) × (r .before ≡ lineFeed) ⌝ }
     {
         Cursor {
@@ -112,7 +112,7 @@ fn token_end(s: &[u8], from: usize) -> usize
 }
 
 // The next token, which is empty at the end of the text and where the spaces before it are not those due.
-pub fn next_token(s: &[u8], c: Cursor) -> Token
+pub(crate) fn next_token(s: &[u8], c: Cursor) -> Token
     requires { ⌜ c .at ≤ length (now s) ⌝ }
     ensures { λ r. ⌜ NextToken (now (s .entry)) c r ⌝ }
 {
