@@ -11,14 +11,14 @@ use native.Mathlib.Omega.{arith}
 use lib.Dec.{eqb}
 use lib.ListN.{length, getD, drop}
 use lib.Seq.{drop-cons}
-use borrow.Author.Tests.{lt-ltb, le-ltb}
+use borrow.Author.Tests.{le-ltb}
 use Rattle.lists.specs.Lists.{range, any}
 use Rattle.lists.specs.Sums.{total, sumOf}
 use Rattle.lists.proofs.Cases.{lt-or-ge}
 use Rattle.lists.proofs.Ranges.{in-range, range-append}
 use Rattle.lists.proofs.Counting.{mem-any, any-none, any-append}
 use Rattle.lists.proofs.LeastOf.{leastOf-le}
-use Rattle.lists.proofs.Sums.{sumOf-zero, sumOf-add, sumOf-mono, sumOf-once, le-sumOf}
+use Rattle.lists.proofs.Sums.{sumOf-zero, sumOf-add, sumOf-mono, sumOf-once}
 use Rattle.cut.specs.Share.{bundleValue}
 use Rattle.cut.specs.internal.Scan.{leastLoaded}
 use Rattle.cut.specs.internal.Walk.{supply, demand, isShortAt, isShort}
@@ -87,14 +87,3 @@ module _ (goal : ℕ) (load : ℕ → ℕ) (n : ℕ) where
         ap (any (isShortAt goal load n values)) (range-append 1 i 1)
         ∙ any-append (isShortAt goal load n values) (range 1 i) (range (1 + i) 1)
         ∙ rw (before, add-comm 1 i, now)
-
-  -- where nothing is left to lay and the test passes, each bundle reaches the goal
-  pub enough : isShort goal load n [] ≡ false → (c : ℕ) → 1 ≤ c → c ≤ n → goal ≤ load c
-  enough passes c lo hi =
-      ⊎-elim
-      (λ lacking. absurd (true≢false (sym (short-at [] c lo hi (short lacking)) ∙ passes)))
-      (λ reached. reached)
-      (lt-or-ge (load c) goal)
-    where
-      short : load c < goal → isShortAt goal load n [] c ≡ true
-      short lacking = lt-ltb 0 (demand goal load n (goal - load c)) (omega (arith, le-sumOf (λ d. min (goal - load d) (goal - load c)) n c lo hi))

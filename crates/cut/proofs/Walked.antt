@@ -1,6 +1,6 @@
 -- One step of the walk: its end, a branch that it leaves, and its branches one after the other. Assumes nothing.
 use mathlib.Core.Path.{_≡_, sym, ap, ap₂, fun-ext, _∙_}
-use mathlib.Core.Bool.{true, false}
+use mathlib.Core.Bool.{true}
 use mathlib.Core.Logic.{⊎-elim}
 use mathlib.Core.List.{List, [], _∷_, _++_}
 use Prim.Native.Nat.{ℕ, _+_, _-_, _≤_, _<_, min, max}
@@ -15,15 +15,15 @@ use Rattle.lists.specs.Sums.{leastOf}
 use Rattle.lists.specs.Dictionary.{branches}
 use Rattle.lists.proofs.Cases.{eq-or-ne}
 use Rattle.lists.proofs.Ranges.{range-append}
-use Rattle.lists.proofs.LeastOf.{leastOf-cong, le-leastOf}
+use Rattle.lists.proofs.LeastOf.{leastOf-cong}
 use Rattle.lists.proofs.Listed.{branches-append}
 use Rattle.cut.specs.Share.{bundleValue}
-use Rattle.cut.specs.internal.Scan.{growthPartitions, scan, loadOf, leastLoaded}
+use Rattle.cut.specs.internal.Scan.{growthPartitions, keep, scan, loadOf, leastLoaded}
 use Rattle.cut.specs.internal.Walk.{isShort, Ready, walked}
 use Rattle.cut.specs.declared.Best.{Best}
-use Rattle.cut.proofs.Scan.{keep-new, scan-append, scan-idle}
+use Rattle.cut.proofs.Scan.{scan-append, scan-idle}
 use Rattle.cut.proofs.Growth.{loaded, scan-branch}
-use Rattle.cut.proofs.Threshold.{short-of-goal, enough}
+use Rattle.cut.proofs.Threshold.{short-of-goal}
 use Rattle.cut.proofs.Loads.{load-stored}
 
 -- values that are not empty are the first and, as a part of the slice, the others
@@ -39,14 +39,12 @@ module _ (bundles at used : ℕ) (loads partition : List ℕ) (best : Best) wher
       scan-idle (leastLoaded bundles (loadOf loads) values) (sets partition at) best (growthPartitions bundles used (length values))
       (λ l _. short-of-goal (best .goal) (loadOf loads) bundles values l short)
 
-  -- all values are laid, and no bundle lacks anything of the goal
-  pub walked-end : 1 ≤ bundles → isShort (best .goal) (loadOf loads) bundles [] ≡ false
-      → walked [] bundles at used loads partition best ≡ record { goal = leastOf (loadOf loads) bundles + 1; partition = partition }
+  -- all values are laid
+  pub walked-end : walked [] bundles at used loads partition best ≡ keep (leastOf (loadOf loads) bundles) partition best
   unfolding walked
-  walked-end some passes =
+  walked-end =
       let low : leastLoaded bundles (loadOf loads) [] [] ≡ leastOf (loadOf loads) bundles = leastOf-cong (λ c. loadOf loads c + 0) (loadOf loads) bundles (λ c _ _. add-zero (loadOf loads c)) in
       rw low
-      (keep-new (leastOf (loadOf loads) bundles) partition best (le-leastOf (loadOf loads) bundles (best .goal) some (enough (best .goal) (loadOf loads) bundles passes)))
 
   module _ (value : ℕ) (rest : List ℕ) where
     -- the best once the partitions that lay the next value on one of the bundles 1 .. bundle are tried

@@ -6,8 +6,8 @@ ghost use lib.Dec.{ltb};
 ghost use Rattle.lists.specs.Sums.{leastOf};
 ghost use Rattle.sheet.specs.Limits.{mostAgents, mostItems};
 ghost use Rattle.cut.specs.Outcome.{refused, outcome, cutting};
-ghost use Rattle.cut.specs.internal.Scan.{loadOf};
-ghost use Rattle.cut.specs.internal.Walk.{supply, demand, isShort, Light, Chooses, Ready, walked};
+ghost use Rattle.cut.specs.internal.Scan.{keep, loadOf};
+ghost use Rattle.cut.specs.internal.Walk.{sumLimit, supply, demand, isShort, Light, Chooses, Ready, walked};
 use sheet::Row;
 use sheet::Sheet;
 
@@ -161,6 +161,20 @@ fn is_short(values: &[u64], loads: Loads, bundles: usize, goal: u64) -> bool
     false
 }
 
+// The partition, whose least bundle is `low`, where that reaches the goal; else the best so far.
+fn better(best: Best, low: u64, partition: Partition) -> Best
+    requires { ⌜ low ≤ sumLimit ⌝ }
+    ensures { λ r. ⌜ r ≡ keep low partition best ⌝ }
+{
+    if low < best.goal {
+        return best;
+    }
+    Best {
+        goal: low + 1,
+        partition,
+    }
+}
+
 // The best of `best` and the growth partitions that go on from the first `at` places of `partition`; the values are still to be laid.
 fn walk(
     values: &[u64],
@@ -174,16 +188,12 @@ fn walk(
     requires { ⌜ Ready (now values) bundles at used loads ⌝ }
     ensures { λ r. ⌜ r ≡ walked (now (values .entry)) bundles at used loads partition best ⌝ }
 {
+    if values.len() == 0 {
+        return better(best, least(loads, bundles), partition);
+    }
     let goal = best.goal;
     if is_short(values, loads, bundles, goal) {
         return best;
-    }
-    if values.len() == 0 {
-        let low = least(loads, bundles);
-        return Best {
-            goal: low + 1,
-            partition,
-        };
     }
     let value = values[0];
     let rest = &values[1..];

@@ -19,6 +19,7 @@ use borrow.Fn.PlainCycle.{Measures, is, falls, and}
 use Rattle.cut.proofs.walk.Reads as walk
 use Rattle.cut.proofs.walk.Kinds as walk-kinds
 use Rattle.cut.proofs.+walk.Lts-walk as lts
+use Rattle.cut.proofs.better.Reads as better-reads
 use Rattle.cut.proofs.greater.Reads as greater-reads
 use Rattle.cut.proofs.is_short.Reads as is-short-reads
 use Rattle.cut.proofs.least.Reads as least-reads
@@ -43,10 +44,12 @@ walk-below t = and 1 walk-kinds.ps (falls 1 walk-kinds.ps _<_ μ-walk t) walk.Pr
 -- what a call of each function asks and tells
 abbrev claims : ℕ → lts.Claims
 claims t = (
-  is-short-reads.Asked,
-  is-short-reads.Learnt,
   least-reads.Asked,
   least-reads.Learnt,
+  better-reads.Asked,
+  better-reads.Learnt,
+  is-short-reads.Asked,
+  is-short-reads.Learnt,
   open-bundles-reads.Asked,
   open-bundles-reads.Learnt,
   greater-reads.Asked,
@@ -73,32 +76,29 @@ module _ (t : ℕ) where
   values-are : (s : Start) → (length (s .args .values .now) ≡ 0 → ⊥) → let vs = s .args .values .now in vs ≡ getD vs 0 0 ∷ take (length vs - 1) (drop 1 vs)
   values-are s some = first-and-rest (s .args .values .now) (omega arith)
 
-  is-short-requires : lts.Need-is-short-requires (claims t) (walk-at t) walk.Post Inv-loop μ-loop
-  is-short-requires c κs = let r = c .before .pre .1 in (record { few = omega (arith, r .few); light = omega (arith, r .light 0) }, r .few-bundles)
-
-  returns : lts.Need-returns (claims t) (walk-at t) walk.Post Inv-loop μ-loop
-  returns c =
-      let a = c .before .before .before .args in
-      sym (walked-short (a .bundles) (a .at) (a .used) (a .t5) (a .partition) (a .best) (a .values .now) (sym (c .before .is-short .ensures) ∙ c .if1 .taken))
-
   least-requires : lts.Need-least-requires (claims t) (walk-at t) walk.Post Inv-loop μ-loop
   least-requires c κs = omega arith
 
-  add-t24 : lts.Need-add-t24 (claims t) (walk-at t) walk.Post Inv-loop μ-loop
-  add-t24 c =
-      let s = c .before .before .before .before .before in
+  better-requires : lts.Need-better-requires (claims t) (walk-at t) walk.Post Inv-loop μ-loop
+  better-requires c κs =
+      let s = c .before .before .before in
       let r = s .pre .1 in
       omega (arith, r .light 0, c .least .ensures, leastOf-le (loadOf (s .args .t5)) (s .args .bundles) 1 (omega arith) (r .some-bundles))
 
+  returns : lts.Need-returns (claims t) (walk-at t) walk.Post Inv-loop μ-loop
+  returns c =
+      let s = c .before .before .before .before in
+      let a = s .args in
+      let none : a .values .now ≡ [] = empty (a .values .now) (c .before .before .if1 .taken) in
+      rw none (rw (c .before .least .ensures) at (c .better .ensures) ∙ sym (walked-end (a .bundles) (a .at) (a .used) (a .t5) (a .partition) (a .best)))
+
+  is-short-requires : lts.Need-is-short-requires (claims t) (walk-at t) walk.Post Inv-loop μ-loop
+  is-short-requires c κs = let r = c .before .before .pre .1 in (record { few = omega (arith, r .few); light = omega (arith, r .light 0) }, r .few-bundles)
+
   returns-2 : lts.Need-returns-2 (claims t) (walk-at t) walk.Post Inv-loop μ-loop
   returns-2 c =
-      let s = c .before .before .before .before .before in
-      let a = s .args in
-      let last : ℕ → Best = λ low. record { goal = low + 1; partition = a .partition } in
-      let none : a .values .now ≡ [] = empty (a .values .now) (c .before .if2 .taken) in
-      let passes = sym (c .before .before .before .is-short .ensures) ∙ c .before .before .if1 .left in
-      rw none (ap last (c .least .ensures)
-      ∙ sym (walked-end (a .bundles) (a .at) (a .used) (a .t5) (a .partition) (a .best) (s .pre .1 .some-bundles) (rw none at passes)))
+      let a = c .before .before .before .before .args in
+      sym (walked-short (a .bundles) (a .at) (a .used) (a .t5) (a .partition) (a .best) (a .values .now) (sym (c .before .is-short .ensures) ∙ c .if2 .taken))
 
   shared-slice-read-value : lts.Need-shared-slice-read-value (claims t) (walk-at t) walk.Post Inv-loop μ-loop
   shared-slice-read-value c = omega arith
@@ -128,7 +128,7 @@ module _ (t : ℕ) where
   add-loaded c =
       let s = c .before .before .before .before .before .before .before .before .before in
       let r = s .pre .1 in
-      omega (arith, r .light (c .before .loop .bundle), ap total (values-are s (c .before .before .before .before .before .if2 .left)))
+      omega (arith, r .light (c .before .loop .bundle), ap total (values-are s (c .before .before .before .before .before .before .before .if1 .left)))
 
   mul-loaded-2 : lts.Need-mul-loaded-2 (claims t) (walk-at t) walk.Post Inv-loop μ-loop
   mul-loaded-2 c = omega arith
@@ -159,7 +159,7 @@ module _ (t : ℕ) where
       let s = c .before .before .before .before .before .before .before .before .before .before in
       let a = s .args in
       let vs = a .values .now in
-      let parts = values-are s (c .before .before .before .before .before .before .if2 .left) in
+      let parts = values-are s (c .before .before .before .before .before .before .before .before .if1 .left) in
       let next = ready-next (a .bundles) (a .at) (a .used) (a .t5) (a .partition) (a .best) (getD vs 0 0) (take (length vs - 1) (drop 1 vs)) (rw parts at (s .pre .1))
       (c .before .before .loop .bundle) (omega arith) (omega (arith, s .pre .1 .few-bundles, loads-places s)) in
       (omega (arith, s .pre .0, ap length parts), rw (c .greater .ensures) next)
@@ -187,7 +187,7 @@ module _ (t : ℕ) where
       let s = c .before .before .before .before .before .before .before .before .before in
       let a = s .args in
       let vs = a .values .now in
-      let parts = values-are s (c .before .before .before .before .before .if2 .left) in
+      let parts = values-are s (c .before .before .before .before .before .before .before .if1 .left) in
       let e : c .before .loop .bundle ≡ min (a .used + 1) (a .bundles) = omega (arith, c .before .before .open-bundles .ensures) in
       c .before .loop .inv .1
       ∙ ap (walkedUpTo (a .bundles) (a .at) (a .used) (a .t5) (a .partition) (a .best) (getD vs 0 0) (take (length vs - 1) (drop 1 vs))) e
@@ -197,10 +197,10 @@ module _ (t : ℕ) where
 pub +walk-spec : {M : Type 1} → statement M
 +walk-spec =
     close μ-walk λ t. lts.spec (claims t) (walk-at t) walk.Post Inv-loop μ-loop
-    (is-short-requires t)
-    (returns t)
     (least-requires t)
-    (add-t24 t)
+    (better-requires t)
+    (returns t)
+    (is-short-requires t)
     (returns-2 t)
     (shared-slice-read-value t)
     (sub-rest t)

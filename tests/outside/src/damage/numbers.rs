@@ -1,0 +1,70 @@
+//! Damage to the numbers of a text.
+
+use super::bytes::byte_altered;
+use crate::generator::Generator;
+
+/// Start and end of each run of digits.
+fn numbers(text: &[u8]) -> Vec<(usize, usize)> {
+    let is_digit = |place: &usize| text.get(*place).is_some_and(u8::is_ascii_digit);
+    let starts =
+        (0..text.len()).filter(|place| is_digit(place) && (*place == 0 || !is_digit(&(place - 1))));
+    starts.map(|start| (start, (start..).find(|place| !is_digit(place)).unwrap())).collect()
+}
+
+/// At a limit, just outside one, beyond a width of 8, 16, 32 or 64 bits, or not a number at all.
+const NUMBERS: &str =
+    "0 1 2 3 6 7 12 13 99 255 256 258 999 1000 9999 65534 65535 65536 65537 70000 \
+    99999 100000 131072 4294967296 4294967297 18446744073709551615 18446744073709551617 \
+    00 01 02 05 000 065535 -1 +1 x";
+
+fn other_number(generator: &mut Generator) -> Vec<u8> {
+    let numbers: Vec<&str> = NUMBERS.split(' ').collect();
+    match generator.below(12) {
+        0 => (0..generator.between(6, 60)).map(|_| b'0' + generator.below(10) as u8).collect(),
+        1 => generator.below(100_000).to_string().into_bytes(),
+        2 => Vec::new(),
+        _ => generator.choose(&numbers).as_bytes().to_vec(),
+    }
+}
+
+/// The number in one of the first places is replaced.
+fn replaced_among(generator: &mut Generator, text: &[u8], first: usize) -> Vec<u8> {
+    let numbers = numbers(text);
+    if numbers.is_empty() {
+        return text.to_vec();
+    }
+    let (start, end) = numbers[generator.index(numbers.len().min(first))];
+    [&text[..start], &other_number(generator), &text[end..]].concat()
+}
+
+pub fn number_replaced(generator: &mut Generator, text: &[u8]) -> Vec<u8> {
+    replaced_among(generator, text, text.len())
+}
+
+pub fn count_replaced(generator: &mut Generator, text: &[u8]) -> Vec<u8> {
+    replaced_among(generator, text, 2)
+}
+
+pub fn two_numbers_replaced(generator: &mut Generator, text: &[u8]) -> Vec<u8> {
+    let once = number_replaced(generator, text);
+    match generator.below(3) {
+        0 => count_replaced(generator, &once),
+        _ => number_replaced(generator, &once),
+    }
+}
+
+pub fn number_and_byte_altered(generator: &mut Generator, text: &[u8]) -> Vec<u8> {
+    let once = number_replaced(generator, text);
+    byte_altered(generator, &once)
+}
+
+#[cfg(test)]
+mod tests {
+    use super::numbers;
+
+    #[test]
+    fn runs_of_digits_are_found() {
+        assert_eq!(numbers(b"12 a3(456"), [(0, 2), (4, 5), (6, 9)]);
+        assert_eq!(numbers(b""), []);
+    }
+}

@@ -1,0 +1,77 @@
+//! The tables to compare on: all small ones, and the random ones of every family and every count of
+//! yards and pieces. Also the strict text of a table.
+
+use crate::families::FAMILIES;
+use crate::generator::Generator;
+use crate::limits::{MOST_PIECES, MOST_YARDS};
+use crate::reader::Sheet;
+
+/// Every table of up to three yards, three pieces and marks 0 to 2.
+pub fn all_small() -> impl Iterator<Item = Sheet> {
+    let counts = (1..=3).flat_map(|yards| (1..=3).map(move |pieces| (yards, pieces)));
+    counts.flat_map(|(yards, pieces)| {
+        let places = (yards * pieces) as u32;
+        (0..3usize.pow(places)).map(move |number| {
+            let mark = |place: usize| (number / 3usize.pow(place as u32) % 3) as u64;
+            let row = |yard: usize| (0..pieces).map(|piece| mark(yard * pieces + piece)).collect();
+            Sheet { yards, pieces, marks: (0..yards).map(row).collect() }
+        })
+    })
+}
+
+/// Of one family, this many tables for every count of yards and pieces.
+pub fn of_family(family: usize, each: usize) -> impl Iterator<Item = Sheet> {
+    let mut generator = Generator::new(family as u64);
+    let counts = (0..each).flat_map(|_| every_count());
+    counts.map(move |(yards, pieces)| {
+        let marks = FAMILIES[family].1(&mut generator, yards, pieces);
+        Sheet { yards, pieces, marks }
+    })
+}
+
+fn every_count() -> impl Iterator<Item = (usize, usize)> {
+    (1..=MOST_YARDS).flat_map(|yards| (1..=MOST_PIECES).map(move |pieces| (yards, pieces)))
+}
+
+/// A table of any family with any counts.
+pub fn any(generator: &mut Generator) -> Sheet {
+    let yards = 1 + generator.index(MOST_YARDS);
+    let pieces = 1 + generator.index(MOST_PIECES);
+    let family = generator.index(FAMILIES.len());
+    Sheet { yards, pieces, marks: FAMILIES[family].1(generator, yards, pieces) }
+}
+
+/// The sheet as document 01 lays it out.
+pub fn strict_text(sheet: &Sheet) -> Vec<u8> {
+    let mut text = format!("(sheet (yards {}) (pieces {}))\n", sheet.yards, sheet.pieces);
+    for (agent, row) in sheet.marks.iter().enumerate() {
+        let marks: Vec<String> = row.iter().map(u64::to_string).collect();
+        text += &format!("(yard {} (marks {}))\n", agent + 1, marks.join(" "));
+    }
+    text += "(end)\n";
+    text.into_bytes()
+}
+
+#[cfg(test)]
+mod tests {
+    use super::{all_small, of_family, strict_text};
+    use crate::families::FAMILIES;
+    use crate::reader::read;
+
+    #[test]
+    fn all_small_tables_are_there() {
+        let cells = [1, 2, 3, 2, 4, 6, 3, 6, 9];
+        assert_eq!(all_small().count(), cells.iter().map(|places| 3usize.pow(*places)).sum());
+    }
+
+    #[test]
+    fn every_random_table_reads_back() {
+        for (family, (name, _)) in FAMILIES.iter().enumerate() {
+            for sheet in of_family(family, 5) {
+                let again = read(&strict_text(&sheet)).expect(name);
+                assert_eq!((again.yards, again.pieces), (sheet.yards, sheet.pieces));
+                assert_eq!(again.marks, sheet.marks);
+            }
+        }
+    }
+}
