@@ -3,7 +3,7 @@
 pub mod Tokens
 pub mod Grammar
 pub mod Reading
+pub mod Answers
 pub mod StrictText
 pub mod WithinLimits
-pub mod Answers
 pub mod internal

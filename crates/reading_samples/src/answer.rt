@@ -7,7 +7,7 @@ use sheet::Sheet;
 use sheet::Table;
 
 // Room for the texts that are joined here.
-const ROOM: usize = 256;
+const ROOM: usize = 640;
 
 // Prints bytes.
 pub fn print(bytes: &[u8]) {

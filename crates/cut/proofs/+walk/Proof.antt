@@ -12,7 +12,6 @@ use Rattle.lists.proofs.LeastOf.{leastOf-le}
 use Rattle.sheet.specs.Limits.{mostAgents}
 use Rattle.cut.specs.internal.Scan.{loadOf}
 use Rattle.cut.specs.internal.Walk.{walked}
-use Rattle.cut.specs.declared.Best.{Best}
 use Rattle.cut.proofs.Walked.{first-and-rest, walkedUpTo, walked-short, walked-end, walked-all, walkedUpTo-next, ready-next}
 use borrow.Fn.Kinds.{In}
 use borrow.Fn.PlainCycle.{Measures, is, falls, and}

@@ -1,9 +1,9 @@
--- `limits::filled` is safe and ends. Assumes nothing.
+-- `long::filled` is safe and ends. Assumes nothing.
 use native.Mathlib.Omega.{arith}
 use lib.ListN.{length-take}
 use borrow.Author.Needs.{needs}
-use Rattle.reading_samples.proofs.limits.filled.Statement.{statement}
-use Rattle.reading_samples.proofs.limits.filled.Tie as tie
+use Rattle.reading_samples.proofs.long.filled.Statement.{statement}
+use Rattle.reading_samples.proofs.long.filled.Tie as tie
 
 print-requires : tie.Need-print-requires
 print-requires c κs = search needs
