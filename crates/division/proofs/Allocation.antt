@@ -50,7 +50,7 @@ module _ (n m : ℕ) (terms : Terms) (table : List (List ℕ)) where
       rw (← e) (held-sublist G n (range 1 n) (range 1 m) agent)
 
   module _ (allowed : Allowed n terms) where
-    sound : Sound n m G
+    pub sound : Sound n m G
     sound = record { allowed = allowed; own-shares = λ agent i. nth-shares n m table i ∙ sym (shareOf-profile n m table i) }
 
     -- in every round there is a bundle for each agent served

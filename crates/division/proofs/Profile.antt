@@ -26,11 +26,11 @@ pub nth-map-range : {A : Type 0} (f : ℕ → A) (d : A) (n : ℕ) {i : ℕ} →
 nth-map-range f d n {i} m = let b = range-bounds 1 n m in getD-map-range f d 1 n (i - 1) (omega arith) ∙ ap f (omega arith)
 
 module _ (n m : ℕ) (table : List (List ℕ)) {agent : ℕ} (in-use : Mem agent (range 1 n)) where
-  valuation-profile : valuation (profile n m table) agent ≡ allValues m (valuation table agent)
+  pub valuation-profile : valuation (profile n m table) agent ≡ allValues m (valuation table agent)
   unfolding profile
   valuation-profile = nth-map-range (λ i. allValues m (valuation table i)) [] n in-use
 
-  valueOf-profile : (k : ℕ) → Mem k (range 1 m) → valueOf (valuation (profile n m table) agent) k ≡ valueOf (valuation table agent) k
+  pub valueOf-profile : (k : ℕ) → Mem k (range 1 m) → valueOf (valuation (profile n m table) agent) k ≡ valueOf (valuation table agent) k
   valueOf-profile k mk = ap (λ row. valueOf row k) valuation-profile ∙ nth-map-range (valueOf (valuation table agent)) 0 m mk
 
   pub values-profile : {items : List ℕ} → Sublist items (range 1 m) → map (valueOf (valuation (profile n m table) agent)) items ≡ map (valueOf (valuation table agent)) items

@@ -1,8 +1,8 @@
--- The theorems of demand 3 about every table: n agents (yards), m items (pieces) and any marks. Assumes nothing.
+-- The theorems about every table: n agents (yards), m items (pieces) and any marks. Assumes nothing.
 use mathlib.Core.Path.{_≡_, refl, sym, ap, _∙_}
-use mathlib.Core.Bool.{true, false, false≢true}
-use mathlib.Core.Logic.{_↔_, ⊎-elim}
-use mathlib.Core.List.{List, [], List·Memᴰ as Mem}
+use mathlib.Core.Bool.{false≢true}
+use mathlib.Core.Logic.{⊎-elim}
+use mathlib.Core.List.{List, List·Memᴰ as Mem}
 use Prim.Native.Nat.{ℕ, _≤_}
 use native.Mathlib.Omega.{arith}
 use lib.ListN.{length}
@@ -12,64 +12,82 @@ use Rattle.lists.proofs.Counting.{sublist-mem, filter-all}
 use Rattle.sheet.specs.Limits.{mostAgents, mostItems}
 use Rattle.division.specs.Ratio.{termsFor}
 use Rattle.division.specs.Round.{Round}
-use Rattle.division.specs.Division.{Answer, refused, divided, bundlesOf, isDivision, standardInstance, allRounds, divisionOf, answer}
-use Rattle.division.specs.Promise.{allAgents, satisfiedAgents, Allocates, AgreeInUse}
+use Rattle.division.specs.Division.{refused, divided, standardInstance, allRounds, allocation, divisionOf, answer}
+use Rattle.division.specs.Outcome.{outcome}
+use Rattle.division.specs.Promise.{isDivision, bundlesIn, allAgents, satisfiedAgents, Allocates, Promised, AgreeInUse}
 use Rattle.division.proofs.Ratio.{termsFor-allowed}
 use Rattle.division.proofs.Profile.{profile-agree}
 use Rattle.division.proofs.Allocation.{length-allocation, allocation-sublist, served-each, holds-promised, item-in-one}
-use Rattle.division.proofs.Answer.{divisionByRounds, answer-cases, never-share-above-total, answer-within-limits}
+use Rattle.division.proofs.Answers.{divisionByRounds, Within, answer-cases, never-share-above-total, answer-within-limits}
+use Rattle.division.proofs.Outcomes.{bundlesIn-divided}
 
 module _ (n m : ℕ) (table : List (List ℕ)) where
+  -- the bundles of the division by the rounds
+  abbrev bundles : List (List ℕ)
+  bundles = allocation n m (standardInstance n m table)
+
   -- in the division by the rounds every agent is satisfied
-  all-satisfied : allAgents n ≡ satisfiedAgents n m table (divided (divisionByRounds n m table))
-  unfolding divisionOf termsFor
+  all-satisfied : allAgents n ≡ satisfiedAgents n m table bundles
+  unfolding termsFor
   all-satisfied =
       rw (length-allocation n m (termsFor n) table)
       (sym (filter-all _ (range 1 n) (holds-promised n m (termsFor n) table (termsFor-allowed n))))
 
-  module _ (some : 1 ≤ n) where
-    -- demand 3: "two lists are equal exactly when the box gives a division"
-    pub satisfied-iff-division : (allAgents n ≡ satisfiedAgents n m table (answer n m table)) ↔ (isDivision (answer n m table) ≡ true)
-    satisfied-iff-division =
-        ⊎-elim
-        (λ e. rw e (λ _. refl, λ _. all-satisfied))
-        (λ r. rw (r .1) (λ e. absurd (omega (arith, ap length e, length-range 1 n)), λ e. absurd (false≢true e)))
-        (answer-cases n m table)
+  -- each item is in one bundle
+  all-allocated : 1 ≤ n → Allocates n m bundles
+  all-allocated some =
+      record {
+        bundle-each = length-allocation n m (termsFor n) table;
+        item-in-one-bundle = λ k lo hi. item-in-one n m (termsFor n) table (termsFor-allowed n) some k (in-range 1 m k lo (omega arith));
+        no-other-item = λ bundle mem k mk. let b = range-bounds 1 m (sublist-mem (allocation-sublist n m (termsFor n) table bundle mem) mk) in (b .0, omega arith);
+      }
 
-    -- "in every division each piece of the table is in exactly one pile and no pile names any other piece"
-    pub division-allocates : isDivision (answer n m table) ≡ true → Allocates n m (bundlesOf (answer n m table))
-    unfolding divisionOf
-    division-allocates is =
-        ⊎-elim
-        (λ e. rw e (record {
-          bundle-each = length-allocation n m (termsFor n) table;
-          item-in-one-bundle = λ k lo hi. item-in-one n m (termsFor n) table (termsFor-allowed n) some k (in-range 1 m k lo (omega arith));
-          no-other-item = λ bundle mem k mk. let b = range-bounds 1 m (sublist-mem (allocation-sublist n m (termsFor n) table bundle mem) mk) in (b .0, omega arith);
-        }))
-        (λ r. absurd (false≢true (sym (ap isDivision (r .1)) ∙ is)))
-        (answer-cases n m table)
+  divided-bundles : m ≤ mostItems → bundlesIn n (outcome (divided (divisionByRounds n m table))) ≡ bundles
+  unfolding divisionOf
+  divided-bundles few =
+      bundlesIn-divided m few n (divisionByRounds n m table) (length-allocation n m (termsFor n) table) (allocation-sublist n m (termsFor n) table)
 
-    -- "Every table within the limits is divided, by the rounds of document 01"
-    pub within-limits-divided : n ≤ mostAgents → 1 ≤ m → m ≤ mostItems → answer n m table ≡ divided (divisionByRounds n m table)
-    within-limits-divided few some-items few-items = answer-within-limits n m table some few some-items few-items
+  -- what is promised of a division by the rounds
+  promised-divided : Within n m → Promised n m table (outcome (divided (divisionByRounds n m table)))
+  promised-divided w =
+      record {
+        satisfied-iff-division = λ some. (λ _. refl, λ _. rw (divided-bundles (w .few-items)) all-satisfied);
+        refusal-holds-nothing = λ e. absurd (false≢true (sym e));
+        within-limits-divided = λ _ _ _ _. refl;
+        division-allocates = λ _. rw (divided-bundles (w .few-items)) (all-allocated (w .some));
+      }
 
-    -- serving never fails: in every round there is a bundle for each agent served
-    pub every-round-serves : (r : Round) → Mem r (allRounds n m (standardInstance n m table)) → length (r .bundles) ≡ length (r .served)
-    every-round-serves = served-each n m (termsFor n) table (termsFor-allowed n)
+  -- what is promised of a refusal, where the counts are not both within the limits
+  promised-refused : (number : ℕ) → answer n m table ≡ refused number → Promised n m table (outcome (refused number))
+  promised-refused number e =
+      record {
+        satisfied-iff-division = λ some. (λ same. absurd (omega (arith, ap length same, length-range 1 n)), λ is. absurd (false≢true is));
+        refusal-holds-nothing = λ _. refl;
+        within-limits-divided = λ some few some-items few-items. ap (λ a. isDivision (outcome a)) (sym e ∙ answer-within-limits n m table some few some-items few-items);
+        division-allocates = λ is. absurd (false≢true is);
+      }
 
-    -- refusal 9 never fires
-    pub share-check-never-fires : answer n m table ≡ refused 9 → ⊥
-    share-check-never-fires = never-share-above-total n m table some
+  -- demand 3, for every table
+  pub promised : Promised n m table (outcome (answer n m table))
+  promised = ⊎-elim (λ d. rw (d .0) (promised-divided (d .1))) (λ r. rw (r .1) (promised-refused (r .0) (r .1))) (answer-cases n m table)
 
--- "Without a division no yard holds a pile"
-pub refusal-holds-no-bundle : (n m : ℕ) (table : List (List ℕ)) → isDivision (answer n m table) ≡ false → bundlesOf (answer n m table) ≡ []
-refusal-holds-no-bundle n m table none = step (answer n m table) none
-  where
-    step : (a : Answer) → isDivision a ≡ false → bundlesOf a ≡ []
-    step (refused number) e = refl
-    step (divided d) e = absurd (false≢true (sym e))
+  -- "Every table within the limits is divided, by the rounds of document 01"
+  pub within-limits-divided : 1 ≤ n → n ≤ mostAgents → 1 ≤ m → m ≤ mostItems → answer n m table ≡ divided (divisionByRounds n m table)
+  within-limits-divided some few some-items few-items = answer-within-limits n m table some few some-items few-items
+
+  -- serving never fails: in every round there is a bundle for each agent served
+  pub every-round-serves : (r : Round) → Mem r (allRounds n m (standardInstance n m table)) → length (r .bundles) ≡ length (r .served)
+  every-round-serves = served-each n m (termsFor n) table (termsFor-allowed n)
+
+  -- refusal 9 never fires
+  pub share-check-never-fires : 1 ≤ n → answer n m table ≡ refused 9 → ⊥
+  share-check-never-fires some = never-share-above-total n m table some
 
 -- "places beyond the yards and pieces in use count for nothing"
 pub agreeing-tables-same-answer : (n m : ℕ) (table table′ : List (List ℕ)) → AgreeInUse n m table table′ → answer n m table ≡ answer n m table′
 unfolding answer
 agreeing-tables-same-answer n m table table′ same = rw (profile-agree n m table table′ same)
+
+-- and so the code's answer is the same
+pub agreeing-tables-same-outcome : (n m : ℕ) (table table′ : List (List ℕ)) → AgreeInUse n m table table′ → outcome (answer n m table) ≡ outcome (answer n m table′)
+agreeing-tables-same-outcome n m table table′ same = ap outcome (agreeing-tables-same-answer n m table table′ same)

@@ -1,6 +1,6 @@
 -- The answer for a table: its division, or the reason why it is refused. Assumes nothing: these are definitions.
-use mathlib.Core.Bool.{Bool, true, false, cond}
-use mathlib.Core.List.{List, [], map}
+use mathlib.Core.Bool.{Bool, cond}
+use mathlib.Core.List.{List, map}
 use Prim.Native.Nat.{ℕ, _*_}
 use lib.Dec.{ltb}
 use Rattle.lists.specs.Lists.{range, any}
@@ -24,16 +24,6 @@ pub record Division : Type 0 where
 pub data Answer : Type 0 where
   refused : (number : ℕ) → Answer
   divided : Division → Answer
-
--- "a refusal has no pile"
-abbrev pub bundlesOf : Answer → List (List ℕ)
-bundlesOf (refused number) = []
-bundlesOf (divided d) = d .bundles
-
--- whether the answer is a division
-abbrev pub isDivision : Answer → Bool
-isDivision (refused number) = false
-isDivision (divided d) = true
 
 -- whether refusal 9 fires for one of n agents
 unfoldable pub shareExceeds : ℕ → List (List ℕ) → Bool

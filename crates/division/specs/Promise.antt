@@ -1,15 +1,33 @@
--- "The two lists of demand 3", worked from the marks handed in. Assumes nothing: these are definitions.
+-- What is promised of every answer that dividing a table gives: the demands, said of the code's answer itself.
+-- Assumes nothing: these are definitions.
 use mathlib.Core.Path.{_≡_}
-use mathlib.Core.Bool.{Bool}
-use mathlib.Core.List.{List, [], List·Memᴰ as Mem}
+use mathlib.Core.Bool.{Bool, true, false, cond}
+use mathlib.Core.Logic.{_↔_}
+use mathlib.Core.List.{List, [], map, List·Memᴰ as Mem}
 use Prim.Native.Nat.{ℕ, _*_, _-_, _≤_}
 use lib.Dec.{leb}
-use lib.ListN.{length}
-use Rattle.lists.specs.Lists.{range, filter, nth, count, elem}
+use lib.ListN.{length, take}
+use Rattle.lists.specs.Lists.{range, zeros, filter, nth, count, elem}
+use Rattle.sheet.specs.Limits.{mostAgents, mostItems}
+use Rattle.sheet.specs.Sets.{items}
 use Rattle.sheet.specs.Valuations.{valueOf}
 use Rattle.division.specs.Ratio.{largestOdd}
 use Rattle.division.specs.Valuations.{valuation, value, shareOf}
-use Rattle.division.specs.Division.{Answer, bundlesOf}
+use Rattle.division.specs.declared.Answer.{Answer}
+use Rattle.division.specs.declared.Answer.the-variants.{Refused, Divided}
+use Rattle.division.specs.declared.Outcome.{Outcome}
+
+abbrev pub gives : Answer → Bool
+gives (Refused number) = false
+gives (Divided grade) = true
+
+-- whether the answer is a division
+abbrev pub isDivision : Outcome → Bool
+isDivision r = gives (r .answer)
+
+-- the bundles (piles) in the answer for n agents: "A division has one pile for each of these yards", and "a refusal has no pile"
+abbrev pub bundlesIn : ℕ → Outcome → List (List ℕ)
+bundlesIn n r = cond (isDivision r) (map items (take n (r .bundles))) []
 
 -- "The first list is the numbers from 1 to the count of yards, rising"
 abbrev pub allAgents : ℕ → List ℕ
@@ -18,17 +36,28 @@ allAgents n = range 1 n
 module _ (n m : ℕ) (table : List (List ℕ)) where
   -- "a pile for which (3K - 1) × worth is at least 2K × share"
   abbrev pub keepsPromise : ℕ → List ℕ → Bool
-  keepsPromise agent items = leb (2 * largestOdd n * shareOf n m table agent) ((3 * largestOdd n - 1) * value (valuation table agent) items)
+  keepsPromise agent bundle = leb (2 * largestOdd n * shareOf n m table agent) ((3 * largestOdd n - 1) * value (valuation table agent) bundle)
 
   -- "The second list is, rising, the yards holding a pile for which" the promise is kept
-  abbrev pub satisfiedAgents : Answer → List ℕ
-  satisfiedAgents a = filter (λ agent. keepsPromise agent (nth [] (bundlesOf a) agent)) (range 1 (length (bundlesOf a)))
+  abbrev pub satisfiedAgents : List (List ℕ) → List ℕ
+  satisfiedAgents bundles = filter (λ agent. keepsPromise agent (nth [] bundles agent)) (range 1 (length bundles))
 
 -- "each piece of the table is in exactly one pile and no pile names any other piece": one bundle for each of n agents, of m items
 pub record Allocates (n m : ℕ) (bundles : List (List ℕ)) : Type 0 where
   pub bundle-each : length bundles ≡ n
   pub item-in-one-bundle : (k : ℕ) → 1 ≤ k → k ≤ m → count (elem k) bundles ≡ 1
   pub no-other-item : (bundle : List ℕ) → Mem bundle bundles → (k : ℕ) → Mem k bundle → (1 ≤ k) × (k ≤ m)
+
+-- what is promised of the answer r to a table of n agents and m items
+pub record Promised (n m : ℕ) (table : List (List ℕ)) (r : Outcome) : Type 0 where
+  -- the two lists of demand 3 are equal exactly where the answer is a division
+  pub satisfied-iff-division : 1 ≤ n → (allAgents n ≡ satisfiedAgents n m table (bundlesIn n r)) ↔ (isDivision r ≡ true)
+  -- without a division no agent holds an item
+  pub refusal-holds-nothing : isDivision r ≡ false → r .bundles ≡ zeros mostAgents
+  -- every table within the limits is divided
+  pub within-limits-divided : 1 ≤ n → n ≤ mostAgents → 1 ≤ m → m ≤ mostItems → isDivision r ≡ true
+  -- in every division each item is in exactly one bundle, and no bundle has any other item
+  pub division-allocates : isDivision r ≡ true → Allocates n m (bundlesIn n r)
 
 -- the tables have the same marks in the places in use
 abbrev pub AgreeInUse : ℕ → ℕ → List (List ℕ) → List (List ℕ) → Type 0

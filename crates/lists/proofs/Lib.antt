@@ -11,3 +11,4 @@ pub mod LeastOf
 pub mod Listed
 pub mod First
 pub mod Dictionary
+pub mod Tests

@@ -1,0 +1,160 @@
+-- The allocation after all rounds: the bundle of each agent as a set in its place, and the cutters in turn. Assumes nothing.
+use mathlib.Core.Path.{_≡_, refl, sym, ap, _∙_}
+use mathlib.Core.Bool.{Bool, true, false, true≢false}
+use mathlib.Core.Logic.{⊎-elim}
+use mathlib.Core.List.{List, [], _∷_, _++_, map, map-map, List·Memᴰ as Mem, List·Memᴰ·not-nil as not-nil}
+use Prim.Native.Nat.{ℕ, zero, suc, _+_, _-_, _≤_, _<_}
+use native.Mathlib.Nat.{add-sub-cancel, zero-add}
+use native.Mathlib.Numerals.{add-one}
+use native.Mathlib.Omega.{arith}
+use lib.ListN.{length, getD, length-map, length-append, length-replicate}
+use lib.Seq.{sets, sets-eq, ext-getD, getD-append-add}
+use Rattle.lists.specs.Lists.{range, zeros, nth, elem, Within}
+use Rattle.lists.proofs.Ranges.{in-range, range-bounds, length-range, mem-within}
+use Rattle.lists.proofs.Counting.{sublist-mem, reject-mem}
+use Rattle.lists.proofs.Cases.{lt-or-ge}
+use Rattle.lists.proofs.Zeros.{drop-zeros, getD-zeros}
+use Rattle.lists.proofs.Distinct.{mem-elem, elem-mem, not-mem-elem}
+use Rattle.sheet.specs.Limits.{mostAgents}
+use Rattle.sheet.specs.Sets.{setOf}
+use Rattle.division.specs.Round.{Instance, Round, suits, round, rounds, given, held}
+use Rattle.division.specs.Outcome.{perAgent}
+use Rattle.division.specs.internal.Allocation.{withRound, allotted}
+use Rattle.division.specs.declared.dividing.Allocation.{Allocation}
+use Rattle.division.proofs.Held.{given-later, allSuit-length}
+use Rattle.division.proofs.Round.{waiting-sub, waiting-falls, served-parts, waiting-not-served, not-waiting-served}
+use Rattle.division.proofs.Invariant.{Sound, Left, left-all, served-distinct, round-suits, left-next}
+use Rattle.division.proofs.Profile.{nth-map-range}
+use Rattle.division.proofs.Places.{nth-next}
+use Rattle.division.proofs.Padding.{nth-perAgent}
+use Rattle.division.proofs.Stored.{length-stored, stored-other, stored-given}
+
+-- the cutters stand in turn from the number of rounds before on
+pub allotted-cutters : (rs : List Round) (a : Allocation) → (allotted rs a) .cutters ≡ sets (a .cutters) (a .rounds) (map (λ r. r .cutter) rs)
+unfolding allotted
+allotted-cutters [] a = refl
+allotted-cutters (r ∷ rs) a =
+    let next = withRound (r .cutter) (r .served) (map setOf (r .bundles)) a in
+    allotted-cutters rs next ∙ ap (λ i. sets (next .cutters) i (map (λ r. r .cutter) rs)) (add-one (a .rounds))
+
+length-allotted : (rs : List Round) (a : Allocation) → length ((allotted rs a) .bundles) ≡ length (a .bundles)
+unfolding allotted
+length-allotted [] a = refl
+length-allotted (r ∷ rs) a = length-allotted rs (withRound (r .cutter) (r .served) (map setOf (r .bundles)) a) ∙ length-stored (r .served) (map setOf (r .bundles)) (a .bundles)
+
+rounds-few : (G : Instance) (most : ℕ) (agents items : List ℕ) → length (rounds G most agents items) ≤ most
+unfolding rounds
+rounds-few G zero agents items = omega arith
+rounds-few G (suc most) [] items = omega arith
+rounds-few G (suc most) (a ∷ agents) items = let r = round G (a ∷ agents) items in omega (arith, rounds-few G most (r .waiting) (r .left))
+
+module _ (G : Instance) (agents items : List ℕ) where
+  served-mem : {agent : ℕ} → Mem agent (round G agents items .served) → Mem agent agents
+  served-mem m = reject-mem (λ c. elem c (round G agents items .waiting)) agents (rw (served-parts G agents items) at m) .0
+
+  not-left-not-waiting : (agent : ℕ) → elem agent agents ≡ false → elem agent (round G agents items .waiting) ≡ false
+  not-left-not-waiting agent out = not-mem-elem agent _ (λ m. true≢false (sym (mem-elem (sublist-mem (waiting-sub G agents items) m)) ∙ out))
+
+  not-left-not-served : (agent : ℕ) → elem agent agents ≡ false → elem agent (round G agents items .served) ≡ false
+  not-left-not-served agent out = not-mem-elem agent _ (λ m. true≢false (sym (mem-elem (served-mem m)) ∙ out))
+
+served-within : {N M : ℕ} {G : Instance} {agents items : List ℕ} → Left N M G agents items → Within N (round G agents items .served)
+served-within {N} {M} {G} {agents} {items} state = mem-within N (round G agents items .served) (λ c m. sublist-mem (state .of-agents) (served-mem G agents items m))
+
+module _ {N M : ℕ} {G : Instance} (sound : Sound N M G) where
+  -- the place of an agent that is not left is kept
+  allotted-other : (most : ℕ) (agents items : List ℕ) → length agents ≤ most → Left N M G agents items → (a : Allocation) (agent : ℕ) → 1 ≤ agent → elem agent agents ≡ false
+      → getD (allotted (rounds G most agents items) a .bundles) (agent - 1) 0 ≡ getD (a .bundles) (agent - 1) 0
+  unfolding rounds allotted
+  allotted-other zero agents items few state a agent some out = refl
+  allotted-other (suc most) [] items few state a agent some out = refl
+  allotted-other (suc most) (b ∷ agents) items few state a agent some out =
+      let r = round G (b ∷ agents) items in
+      let falls = waiting-falls G (b ∷ agents) items (omega arith) in
+      allotted-other most (r .waiting) (r .left) (omega arith) (left-next sound (omega arith) state) (withRound (r .cutter) (r .served) (map setOf (r .bundles)) a) agent some (not-left-not-waiting G (b ∷ agents) items agent out)
+      ∙ stored-other agent some N (r .served) (map setOf (r .bundles)) (a .bundles) (served-within state) (not-left-not-served G (b ∷ agents) items agent out)
+
+  -- the place of an agent that is left gets the set of the bundle that it holds
+  allotted-held : (most : ℕ) (agents items : List ℕ) → length agents ≤ most → Left N M G agents items → (a : Allocation) (agent : ℕ) → 1 ≤ agent → agent ≤ length (a .bundles) → Mem agent agents
+      → getD (allotted (rounds G most agents items) a .bundles) (agent - 1) 0 ≡ setOf (held (rounds G most agents items) agent)
+  unfolding rounds allotted held
+  allotted-held zero [] items few state a agent some room m = absurd (not-nil m)
+  allotted-held zero (b ∷ agents) items few state a agent some room m = absurd (omega arith)
+  allotted-held (suc most) [] items few state a agent some room m = absurd (not-nil m)
+  allotted-held (suc most) (b ∷ agents) items few state a agent some room m =
+      step (elem agent (r .waiting)) refl
+      (allotted-held most (r .waiting) (r .left) (omega (arith, falls)) after next agent some (omega (arith, length-stored (r .served) (map setOf (r .bundles)) (a .bundles))))
+    where
+      r : Round
+      r = round G (b ∷ agents) items
+
+      falls : length (r .waiting) < length (b ∷ agents)
+      falls = waiting-falls G (b ∷ agents) items (omega arith)
+
+      after : Left N M G (r .waiting) (r .left)
+      after = left-next sound (omega arith) state
+
+      rest : List Round
+      rest = rounds G most (r .waiting) (r .left)
+
+      next : Allocation
+      next = withRound (r .cutter) (r .served) (map setOf (r .bundles)) a
+
+      step : (t : Bool) → elem agent (r .waiting) ≡ t → (Mem agent (r .waiting) → getD (allotted rest next .bundles) (agent - 1) 0 ≡ setOf (held rest agent))
+          → getD (allotted rest next .bundles) (agent - 1) 0 ≡ setOf (given agent (r .served) (r .bundles) (held rest agent))
+      step true e below = below (elem-mem agent (r .waiting) e) ∙ sym (ap setOf (given-later agent (r .served) (r .bundles) (held rest agent) (waiting-not-served G (b ∷ agents) items agent e)))
+      step false e below =
+          allotted-other most (r .waiting) (r .left) (omega (arith, falls)) after next agent some e
+          ∙ stored-given agent some N (r .served) (r .bundles) (a .bundles) (held rest agent) (served-within state) (served-distinct sound (omega arith) state)
+          (allSuit-length (suits G) (r .served) (r .bundles) (round-suits sound (omega arith) state)) room (not-waiting-served G (b ∷ agents) items agent m e)
+
+-- nothing is handed out
+abbrev pub nothing : Allocation
+nothing = record { bundles = zeros mostAgents; cutters = zeros mostAgents; rounds = 0 }
+
+module _ {N M : ℕ} {G : Instance} (sound : Sound N M G) (few : N ≤ mostAgents) where
+  abbrev rs : List Round
+  rs = rounds G N (range 1 N) (range 1 M)
+
+  -- each agent's bundle as a set
+  abbrev held-sets : List ℕ
+  held-sets = map setOf (map (held rs) (range 1 N))
+
+  length-held-sets : length held-sets ≡ N
+  length-held-sets = length-map (map (held rs) (range 1 N)) setOf ∙ length-map (range 1 N) (held rs) ∙ length-range 1 N
+
+  place : (i : ℕ) → i < mostAgents → getD (allotted rs nothing .bundles) i 0 ≡ getD (perAgent 0 held-sets) i 0
+  place i room =
+      ap (λ k. getD (allotted rs nothing .bundles) k 0) (sym (add-sub-cancel i 1))
+      ∙ ⊎-elim in-use beyond (lt-or-ge i N)
+    where
+      in-use : i < N → getD (allotted rs nothing .bundles) (i + 1 - 1) 0 ≡ getD (perAgent 0 held-sets) i 0
+      in-use lt =
+          let mem = in-range 1 N (i + 1) (omega arith) (omega arith) in
+          let mem′ = in-range 1 (length held-sets) (i + 1) (omega arith) (omega (arith, length-held-sets)) in
+          allotted-held sound N (range 1 N) (range 1 M) (omega (arith, length-range 1 N)) (left-all N M G) nothing (i + 1) (omega arith) (omega arith) mem
+          ∙ sym (sym (nth-next 0 (perAgent 0 held-sets) i) ∙ nth-perAgent 0 0 held-sets mem′ ∙ ap (λ l. nth 0 l (i + 1)) (map-map setOf (held rs) (range 1 N))
+          ∙ nth-map-range (λ agent. setOf (held rs agent)) 0 N mem)
+
+      beyond : N ≤ i → getD (allotted rs nothing .bundles) (i + 1 - 1) 0 ≡ getD (perAgent 0 held-sets) i 0
+      beyond ge =
+          let out = not-mem-elem (i + 1) (range 1 N) (λ m. let b = range-bounds 1 N m in omega arith) in
+          let from : i ≡ length held-sets + (i - N) = omega (arith, length-held-sets) in
+          allotted-other sound N (range 1 N) (range 1 M) (omega (arith, length-range 1 N)) (left-all N M G) nothing (i + 1) (omega arith) out
+          ∙ getD-zeros mostAgents (i + 1 - 1)
+          ∙ sym (ap (λ k. getD (perAgent 0 held-sets) k 0) from ∙ getD-append-add held-sets (zeros (mostAgents - length held-sets)) (i - N) 0 ∙ getD-zeros (mostAgents - length held-sets) (i - N))
+
+  pub allotted-bundles : allotted rs nothing .bundles ≡ perAgent 0 held-sets
+  allotted-bundles = ext-getD 0 (allotted rs nothing .bundles) (perAgent 0 held-sets) same (λ i lt. place i (omega (arith, length-allotted rs nothing)))
+    where
+      same : length (allotted rs nothing .bundles) ≡ length (perAgent 0 held-sets)
+      same = length-allotted rs nothing
+          ∙ omega (arith, length-held-sets, length-append held-sets (zeros (mostAgents - length held-sets)), length-replicate {A = ℕ} (mostAgents - length held-sets) 0)
+
+  pub allotted-turns : allotted rs nothing .cutters ≡ perAgent 0 (map (λ r. r .cutter) rs)
+  allotted-turns =
+      let cutters = map (λ (r : Round). r .cutter) rs in
+      allotted-cutters rs nothing
+      ∙ sets-eq cutters (zeros mostAgents) 0 (omega (arith, length-map rs (λ r. r .cutter), rounds-few G N (range 1 N) (range 1 M)))
+      ∙ ap (λ l. cutters ++ l) (drop-zeros mostAgents (0 + length cutters))
+      ∙ ap (λ k. cutters ++ zeros (mostAgents - k)) (zero-add (length cutters))

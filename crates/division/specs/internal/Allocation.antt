@@ -1,0 +1,36 @@
+-- What the contracts of `dividing` cite: the allocation after some rounds, as the code has it. Assumes nothing: these are definitions.
+use mathlib.Core.List.{List, [], _∷_, map}
+use Prim.Native.Nat.{ℕ, _+_, _-_, _≤_}
+use lib.ListN.{length, getD, drop, set}
+use Rattle.sheet.specs.Limits.{mostAgents}
+use Rattle.sheet.specs.Sets.{setOf}
+use Rattle.division.specs.Round.{Instance, Round, rounds}
+use Rattle.division.specs.internal.Suiting.{SmallTerms, SmallShares}
+use Rattle.division.specs.internal.Settling.{Remaining}
+use Rattle.division.specs.declared.dividing.Allocation.{Allocation}
+
+-- the places with the set of each agent served in its place, and 0 where the sets are too few
+abbrev pub stored : List ℕ → List ℕ → List ℕ → List ℕ
+stored [] sets places = places
+stored (agent ∷ served) sets places = stored served (drop 1 sets) (set places (agent - 1) (getD sets 0 0))
+
+-- one round more: its cutter, and the sets of the agents served
+abbrev pub withRound : ℕ → List ℕ → List ℕ → Allocation → Allocation
+withRound cutter served sets a =
+    record { bundles = stored served sets (a .bundles); cutters = set (a .cutters) (a .rounds) cutter; rounds = a .rounds + 1 }
+
+-- the allocation once the rounds are played
+unfoldable pub allotted : List Round → Allocation → Allocation
+allotted [] a = a
+allotted (r ∷ rs) a = allotted rs (withRound (r .cutter) (r .served) (map setOf (r .bundles)) a)
+
+-- the allocation once the agents left have divided the items left
+abbrev pub allottedAll : Instance → List ℕ → List ℕ → Allocation → Allocation
+allottedAll G agents items a = allotted (rounds G (length agents) agents items) a
+
+-- where the rounds may start: what they are handed is small enough, and there is a place for each round
+pub record Ready (top bottom : ℕ) (shares agents : List ℕ) (set : ℕ) (a : Allocation) : Type 0 where
+  pub terms : SmallTerms top bottom
+  pub light : SmallShares shares
+  pub left : Remaining agents set
+  pub places : a .rounds + length agents ≤ mostAgents

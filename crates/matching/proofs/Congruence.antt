@@ -1,0 +1,62 @@
+-- The waiting set, the free bundles and the matching depend on what suits whom only at the agents and bundles given. Assumes nothing.
+use mathlib.Core.Path.{_≡_, refl, ap, ap₂}
+use mathlib.Core.Bool.{Bool, not, cond, _&&_, _||_}
+use mathlib.Core.List.{List, [], _∷_, List·Memᴰ as Mem, List·Memᴰ·head as here, List·Memᴰ·tail as there}
+use Prim.Native.Nat.{ℕ, _+_}
+use lib.Dec.{leb}
+use lib.ListN.{length}
+use Rattle.lists.specs.Lists.{bit, count, any, distinct}
+use Rattle.lists.specs.Dictionary.{listsOver, sublists, firstThat, firstBest}
+use Rattle.lists.proofs.Counting.{filter-cong, sublist-mem}
+use Rattle.lists.proofs.Sublists.{sublists-mem}
+use Rattle.lists.proofs.Listed.{listsOver-in}
+use Rattle.matching.specs.Matching.{wanted, tight, waitingSet, freeBundles, suited, matches, matching}
+
+-- tests that agree on the members
+any-cong : {A : Type 0} (f g : A → Bool) (xs : List A) → ((x : A) → Mem x xs → f x ≡ g x) → any f xs ≡ any g xs
+any-cong f g [] same = refl
+any-cong f g (x ∷ xs) same = ap₂ _||_ (same x (here refl)) (any-cong f g xs (λ y m. same y (there m)))
+
+count-cong : {A : Type 0} (f g : A → Bool) (xs : List A) → ((x : A) → Mem x xs → f x ≡ g x) → count f xs ≡ count g xs
+count-cong f g [] same = refl
+count-cong f g (x ∷ xs) same = ap₂ (λ b n. bit b + n) (same x (here refl)) (count-cong f g xs (λ y m. same y (there m)))
+
+firstThat-cong : (p q : List ℕ → Bool) (ls : List (List ℕ)) → ((l : List ℕ) → Mem l ls → p l ≡ q l) → firstThat p ls ≡ firstThat q ls
+firstThat-cong p q [] same = refl
+firstThat-cong p q (l ∷ ls) same = ap₂ (λ b later. cond b l later) (same l (here refl)) (firstThat-cong p q ls (λ k m. same k (there m)))
+
+module _ (s t : ℕ → ℕ → Bool) where
+  -- the same bundles suit the same agents
+  abbrev pub Agree : List ℕ → List ℕ → Type 0
+  Agree agents bundles = (agent : ℕ) → Mem agent agents → (bundle : ℕ) → Mem bundle bundles → s agent bundle ≡ t agent bundle
+
+  wanted-cong : (agents bundles : List ℕ) → Agree agents bundles → (bundle : ℕ) → Mem bundle bundles → wanted s agents bundle ≡ wanted t agents bundle
+  wanted-cong agents bundles same bundle m = any-cong (λ agent. s agent bundle) (λ agent. t agent bundle) agents (λ agent n. same agent n bundle m)
+
+  pub freeBundles-cong : (waiting bundles : List ℕ) → Agree waiting bundles → freeBundles s waiting bundles ≡ freeBundles t waiting bundles
+  freeBundles-cong waiting bundles same =
+      filter-cong (λ c. not (wanted s waiting c)) (λ c. not (wanted t waiting c)) bundles (λ c m. ap not (wanted-cong waiting bundles same c m))
+
+  tight-cong : (agents bundles : List ℕ) → Agree agents bundles → tight s bundles agents ≡ tight t bundles agents
+  tight-cong agents bundles same = ap (λ n. leb n (length agents)) (count-cong (wanted s agents) (wanted t agents) bundles (wanted-cong agents bundles same))
+
+  pub waitingSet-cong : (others bundles : List ℕ) → Agree others bundles → waitingSet s others bundles ≡ waitingSet t others bundles
+  unfolding waitingSet
+  waitingSet-cong others bundles same =
+      ap (firstBest length)
+      (filter-cong (tight s bundles) (tight t bundles) (sublists others)
+      (λ l m. tight-cong l bundles (λ agent n. same agent (sublist-mem (sublists-mem others m) n))))
+
+  suited-cong : (agents bundles chosen : List ℕ) → Agree agents bundles → ((c : ℕ) → Mem c chosen → Mem c bundles) → suited s agents chosen ≡ suited t agents chosen
+  suited-cong [] bundles [] same from = refl
+  suited-cong [] bundles (c ∷ chosen) same from = refl
+  suited-cong (agent ∷ agents) bundles [] same from = refl
+  suited-cong (agent ∷ agents) bundles (c ∷ chosen) same from =
+      ap₂ _&&_ (same agent (here refl) c (from c (here refl)))
+      (suited-cong agents bundles chosen (λ a m. same a (there m)) (λ d m. from d (there m)))
+
+  pub matching-cong : (served free : List ℕ) → Agree served free → matching s served free ≡ matching t served free
+  unfolding matching
+  matching-cong served free same =
+      firstThat-cong (matches s served) (matches t served) (listsOver free (length served))
+      (λ l m. ap (λ b. b && distinct l) (suited-cong served free l same (listsOver-in free (length served) m .0)))
