@@ -3,13 +3,12 @@ use mathlib.Core.Path.{_≡_, sym, ap, ap₂, fun-ext, _∙_}
 use mathlib.Core.Bool.{true}
 use mathlib.Core.Logic.{⊎-elim}
 use mathlib.Core.List.{List, [], _∷_, _++_}
-use Prim.Native.Nat.{ℕ, _+_, _-_, _≤_, _<_, min, max}
+use Prim.Native.Nat.{ℕ, _+_, _<_, min, max}
 use native.Mathlib.Nat.{add-zero, add-comm}
 use native.Mathlib.Numerals.{add-one}
 use native.Mathlib.Omega.{arith}
-use lib.ListN.{length, getD, take, drop, set}
+use lib.ListN.{length, getD, set}
 use lib.Seq.{sets, getD-set-same, getD-set-other}
-use borrow.Rule.Slice.PartAt.{part-to-end}
 use Rattle.lists.specs.Lists.{range}
 use Rattle.lists.specs.Sums.{leastOf}
 use Rattle.lists.specs.Dictionary.{branches}
@@ -25,11 +24,6 @@ use Rattle.cut.proofs.Scan.{scan-append, scan-idle}
 use Rattle.cut.proofs.Growth.{loaded, scan-branch}
 use Rattle.cut.proofs.Threshold.{short-of-goal}
 use Rattle.cut.proofs.Loads.{load-stored}
-
--- values that are not empty are the first and, as a part of the slice, the others
-pub first-and-rest : (values : List ℕ) → 1 ≤ length values → values ≡ getD values 0 0 ∷ take (length values - 1) (drop 1 values)
-first-and-rest [] some = absurd (omega arith)
-first-and-rest (value ∷ rest) some = ap (λ r. value ∷ r) (sym (part-to-end (value ∷ rest) 1))
 
 module _ (bundles at used : ℕ) (loads partition : List ℕ) (best : Best) where
   -- where the values cannot supply what the bundles lack, nothing is better

@@ -7,6 +7,7 @@ use native.Mathlib.Omega.{arith}
 use lib.ListN.{length}
 use borrow.Author.Tests.{eq-eqb, ne-eqb}
 use Rattle.lists.specs.Dictionary.{greatest, firstAt, firstBest}
+use Rattle.lists.proofs.Passing.{empty}
 use Rattle.lists.proofs.Cases.{lt-or-ge, eq-or-ne}
 
 module _ (f : List ℕ → ℕ) where
@@ -44,10 +45,6 @@ module _ (f : List ℕ → ℕ) where
       (λ lt. firstBest-better b x (xs ++ ys) lt ∙ firstBest-append x xs ys ∙ ap (λ l. firstBest f (l ∷ ys)) (sym (firstBest-better b x xs lt)))
       (λ ge. firstBest-kept b x (xs ++ ys) ge ∙ firstBest-append b xs ys ∙ ap (λ l. firstBest f (l ∷ ys)) (sym (firstBest-kept b x xs ge)))
       (lt-or-ge (f b) (f x))
-
-pub empty : (l : List ℕ) → length l ≤ 0 → l ≡ []
-empty [] none = refl
-empty (x ∷ l) none = absurd (omega arith)
 
 -- the empty list in front changes nothing
 pub longest-from-empty : (ls : List (List ℕ)) → firstBest length ([] ∷ ls) ≡ firstBest length ls

@@ -15,7 +15,7 @@ use Rattle.lists.proofs.Counting.{any-append}
 use Rattle.lists.proofs.Distinct.{eqb-comm}
 use Rattle.matching.specs.Matching.{suited, matches, matching}
 use Rattle.division.specs.internal.Serving.{after, PartialMatching, firstMatching}
-use Rattle.division.proofs.Passing.{take-next, drop-next}
+use Rattle.lists.proofs.Passing.{take-next, drop-next}
 use Rattle.division.proofs.After.{after-cons, after-none}
 
 -- the second list where the first is empty

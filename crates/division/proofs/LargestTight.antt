@@ -17,7 +17,7 @@ use Rattle.lists.proofs.Sublists.{sublists-mem}
 use Rattle.sheet.specs.Limits.{mostAgents}
 use Rattle.matching.specs.Matching.{wanted, neighbours, tight, waitingSet, freeBundles}
 use Rattle.division.specs.internal.Serving.{after, Searching, largestTight}
-use Rattle.division.proofs.Passing.{within-append}
+use Rattle.lists.proofs.Passing.{within-append}
 use Rattle.division.proofs.After.{after-cons, after-none}
 use Rattle.division.proofs.FirstBest.{firstBest-one, firstBest-better, firstBest-head, firstBest-append, longest-from-empty}
 

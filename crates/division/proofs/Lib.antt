@@ -27,7 +27,6 @@ pub mod Theorems
 pub mod Numbers
 pub mod Filling
 pub mod BundleSets
-pub mod Passing
 pub mod SettledRound
 pub mod Allotted
 pub mod FirstBest

@@ -11,7 +11,7 @@ use Rattle.lists.proofs.Counting.{length-sublist, reject-sublist}
 use Rattle.sheet.specs.Limits.{mostAgents}
 use Rattle.division.specs.declared.serving.Numbers.{Numbers}
 use Rattle.division.specs.internal.Numbers.{numbered, listed, IsNumbered, appended}
-use Rattle.division.proofs.Passing.{reject-more, reject-same}
+use Rattle.lists.proofs.Passing.{reject-more, reject-same}
 
 pub listed-numbered : (l : List ℕ) → listed (numbered l) ≡ l
 listed-numbered l = take-append-seam l (zeros (mostAgents - length l))

@@ -22,7 +22,7 @@ use Rattle.matching.proofs.Chosen.{chosen-distinct, chosen-free, chosen-few}
 use Rattle.division.specs.Round.{cutterOf}
 use Rattle.division.specs.internal.Numbers.{numbered}
 use Rattle.division.specs.internal.Settling.{Remaining, Parts}
-use Rattle.division.proofs.Passing.{first-and-rest, within-sublist}
+use Rattle.lists.proofs.Passing.{first-and-rest, within-sublist}
 
 -- of distinct agents, those that are not the first are the rest
 without-first : (agent : ℕ) (agents : List ℕ) → distinct (agent ∷ agents) ≡ true → without agent (agent ∷ agents) ≡ agents

@@ -35,7 +35,7 @@ use Rattle.division.specs.internal.Settling.{Remaining, Parts, instanceF
 use Rattle.division.specs.declared.settling.Settled.{Settled}
 use Rattle.division.proofs.Bundles.{itemsIn-sublist}
 use Rattle.division.proofs.BundleSets.{itemsIn-append, setOf-handed}
-use Rattle.division.proofs.Passing.{within-sublist}
+use Rattle.lists.proofs.Passing.{within-sublist}
 use Rattle.division.proofs.SettledBy.{chooses, waits-same, chooses-same}
 use Rattle.division.proofs.Profile.{nth-map-range}
 use Rattle.division.proofs.Round as parts

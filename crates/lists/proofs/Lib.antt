@@ -12,3 +12,4 @@ pub mod Listed
 pub mod First
 pub mod Dictionary
 pub mod Tests
+pub mod Passing

@@ -1,18 +1,19 @@
 -- The proof of the cycle of calls {walk}. The measure is the number of values still to be laid.
 -- The loop's invariant: `found` is the best once the bundles up to `bundle` are tried. Assumes nothing.
 use mathlib.Core.Path.{_≡_, refl, sym, ap, _∙_}
-use mathlib.Core.List.{List, [], _∷_}
+use mathlib.Core.List.{[], _∷_}
 use Prim.Native.Nat.{ℕ, _+_, _-_, _≤_, _<_, min}
 use native.Mathlib.Omega.{arith}
 use lib.ListN.{length, getD, take, drop}
 use mir.Syntax.{w64}
 use borrow.Kind.Array.{eInt, good-length}
 use Rattle.lists.specs.Sums.{total}
+use Rattle.lists.proofs.Passing.{empty, first-and-rest}
 use Rattle.lists.proofs.LeastOf.{leastOf-le}
 use Rattle.sheet.specs.Limits.{mostAgents}
 use Rattle.cut.specs.internal.Scan.{loadOf}
 use Rattle.cut.specs.internal.Walk.{walked}
-use Rattle.cut.proofs.Walked.{first-and-rest, walkedUpTo, walked-short, walked-end, walked-all, walkedUpTo-next, ready-next}
+use Rattle.cut.proofs.Walked.{walkedUpTo, walked-short, walked-end, walked-all, walkedUpTo-next, ready-next}
 use borrow.Fn.Kinds.{In}
 use borrow.Fn.PlainCycle.{Measures, is, falls, and}
 use Rattle.cut.proofs.walk.Reads as walk
@@ -25,11 +26,6 @@ use Rattle.cut.proofs.least.Reads as least-reads
 use Rattle.cut.proofs.open_bundles.Reads as open-bundles-reads
 use Rattle.cut.proofs.+walk.{statement}
 use Rattle.cut.proofs.+walk.Tie.{close}
-
--- a list without an entry
-empty : (l : List ℕ) → length l ≡ 0 → l ≡ []
-empty [] none = refl
-empty (x ∷ l) none = absurd (omega arith)
 
 abbrev μ-walk : Measures 1 walk-kinds.ps ℕ
 μ-walk κs a = length (a .0 .now)
@@ -88,7 +84,7 @@ module _ (t : ℕ) where
   returns c =
       let s = c .before .before .before .before in
       let a = s .args in
-      let none : a .values .now ≡ [] = empty (a .values .now) (c .before .before .if1 .taken) in
+      let none : a .values .now ≡ [] = empty (a .values .now) (omega arith) in
       rw none (rw (c .before .least .ensures) at (c .better .ensures) ∙ sym (walked-end (a .bundles) (a .at) (a .used) (a .t5) (a .partition) (a .best)))
 
   is-short-requires : lts.Need-is-short-requires (claims t) (walk-at t) walk.Post Inv-loop μ-loop

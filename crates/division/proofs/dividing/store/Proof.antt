@@ -8,7 +8,7 @@ use lib.ListN.{length, getD, drop, set}
 use lib.Seq.{getD-drop, drop-drop, drop-length}
 use Rattle.sheet.specs.Limits.{mostAgents}
 use Rattle.division.specs.internal.Allocation.{stored}
-use Rattle.division.proofs.Passing.{drop-next, within-at}
+use Rattle.lists.proofs.Passing.{drop-next, within-at}
 use Rattle.division.proofs.dividing.store.Statement.{statement}
 use Rattle.division.proofs.dividing.store.Tie as tie
 use Rattle.division.proofs.dividing.store.Reads as reads

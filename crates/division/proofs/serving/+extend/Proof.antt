@@ -13,7 +13,7 @@ use Rattle.division.specs.declared.serving.Numbers.{Numbers}
 use Rattle.division.specs.internal.Numbers.{numbered, listed, appended, fitsOf}
 use Rattle.division.specs.internal.Serving.{firstMatching}
 use Rattle.division.proofs.Numbers.{numbered-listed, numbered-is, count-listed, count-places, appended-listed}
-use Rattle.division.proofs.Passing.{within-at}
+use Rattle.lists.proofs.Passing.{within-at}
 use Rattle.division.proofs.FirstMatching.{matchingFrom, firstMatching-end, firstMatching-all, firstMatching-found, firstMatching-next, firstMatching-none, unsuited-none, used-none, matching-with}
 use borrow.Fn.Kinds.{In}
 use borrow.Fn.PlainCycle.{Measures, is, falls, and}

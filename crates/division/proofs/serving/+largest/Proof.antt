@@ -7,8 +7,7 @@ use lib.ListN.{length, getD, take, drop}
 use Rattle.division.specs.internal.Numbers.{numbered, listed, appended, fitsOf}
 use Rattle.division.specs.internal.Serving.{largestTight}
 use Rattle.division.proofs.Numbers.{numbered-listed, numbered-is, count-listed, count-places, appended-listed}
-use Rattle.division.proofs.Passing.{first-and-rest}
-use Rattle.division.proofs.FirstBest.{empty}
+use Rattle.lists.proofs.Passing.{empty, first-and-rest}
 use Rattle.division.proofs.LargestTight.{largestTight-short, largestTight-new, largestTight-old, largestTight-next, searching-with, searching-without}
 use borrow.Fn.Kinds.{In}
 use borrow.Fn.PlainCycle.{Measures, is, falls, and}

@@ -6,7 +6,7 @@ use lib.Dec.{eqb}
 use lib.ListN.{length, getD, drop}
 use borrow.Author.Tests.{eq-eqb, ne-eqb}
 use Rattle.lists.specs.Lists.{any}
-use Rattle.division.proofs.Passing.{any-found, any-next, any-end}
+use Rattle.lists.proofs.Passing.{any-found, any-next, any-end}
 use Rattle.division.proofs.serving.contains.Statement.{statement}
 use Rattle.division.proofs.serving.contains.Tie as tie
 

@@ -9,7 +9,7 @@ use Rattle.lists.proofs.Ranges.{length-range}
 use Rattle.matching.specs.Matching.{wanted, freeBundles}
 use Rattle.division.specs.internal.Numbers.{numbered, fitsOf}
 use Rattle.division.proofs.Numbers.{kept-few, kept-more, kept-same}
-use Rattle.division.proofs.Passing.{range-next}
+use Rattle.lists.proofs.Passing.{range-next}
 use Rattle.division.proofs.serving.free.Statement.{statement}
 use Rattle.division.proofs.serving.free.Tie as tie
 

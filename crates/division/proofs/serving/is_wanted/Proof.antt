@@ -6,7 +6,7 @@ use lib.ListN.{length, drop}
 use Rattle.sheet.specs.Limits.{mostAgents}
 use Rattle.matching.specs.Matching.{wanted}
 use Rattle.division.specs.internal.Numbers.{fitsOf}
-use Rattle.division.proofs.Passing.{any-found, any-next, any-end, within-at}
+use Rattle.lists.proofs.Passing.{any-found, any-next, any-end, within-at}
 use Rattle.division.proofs.serving.is_wanted.Statement.{statement}
 use Rattle.division.proofs.serving.is_wanted.Tie as tie
 

@@ -11,7 +11,7 @@ use Rattle.lists.specs.Lists.{elem}
 use Rattle.matching.specs.Matching.{servedAgents}
 use Rattle.division.specs.internal.Numbers.{numbered}
 use Rattle.division.proofs.Numbers.{kept-few, kept-more, kept-same}
-use Rattle.division.proofs.Passing.{take-next}
+use Rattle.lists.proofs.Passing.{take-next}
 use Rattle.division.proofs.serving.served.Statement.{statement}
 use Rattle.division.proofs.serving.served.Tie as tie
 

@@ -9,7 +9,7 @@ use Rattle.lists.specs.Lists.{nth}
 use Rattle.sheet.specs.Limits.{mostAgents}
 use Rattle.division.specs.internal.Numbers.{numbered}
 use Rattle.division.proofs.Numbers.{appended-numbered}
-use Rattle.division.proofs.Passing.{take-next, within-at}
+use Rattle.lists.proofs.Passing.{take-next, within-at}
 use Rattle.division.proofs.sets.chosen_sets.Statement.{statement}
 use Rattle.division.proofs.sets.chosen_sets.Tie as tie
 

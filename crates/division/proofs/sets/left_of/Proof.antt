@@ -8,7 +8,7 @@ use mir.Syntax.{w16}
 use borrow.Kind.Array.{eInt, good-length}
 use Rattle.lists.specs.Sums.{total}
 use Rattle.sheet.specs.Limits.{mostAgents}
-use Rattle.division.proofs.Passing.{drop-next}
+use Rattle.lists.proofs.Passing.{drop-next}
 use Rattle.division.proofs.sets.left_of.Statement.{statement}
 use Rattle.division.proofs.sets.left_of.Tie as tie
 

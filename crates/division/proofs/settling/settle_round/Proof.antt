@@ -14,7 +14,7 @@ use Rattle.division.specs.internal.Numbers.{fitsOf}
 use Rattle.division.specs.internal.Sets.{bundleSets}
 use Rattle.division.specs.internal.Suiting.{fitsTable}
 use Rattle.division.specs.internal.Settling.{instanceFrom, settledBy}
-use Rattle.division.proofs.Passing.{within-at}
+use Rattle.lists.proofs.Passing.{within-at}
 use Rattle.division.proofs.SettledBy.{cutter-first}
 use Rattle.division.proofs.SettledRound.{cut-partition, cutSets-parts, settled-round}
 use Rattle.division.proofs.settling.settle_round.Statement.{statement}
