@@ -52,7 +52,7 @@ fn hand_out(allocation: Allocation, cutter: u8, served: &[u8], sets: Sets) -> Al
 }
 
 // The allocation once the agents left have divided the items left: one round, and the agents that wait divide what it leaves.
-pub fn divide_left(
+pub(crate) fn divide_left(
     table: Table,
     shares: Shares,
     top: u64,

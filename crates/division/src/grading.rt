@@ -94,7 +94,7 @@ fn is_maximin_fair(
 }
 
 // The grade: the first that fits.
-pub fn grade_of(
+pub(crate) fn grade_of(
     table: Table,
     yards: usize,
     pieces: usize,

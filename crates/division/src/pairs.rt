@@ -29,7 +29,7 @@ const PAIRS: [Ratio; Sheet::YARDS] = [
 ];
 
 // The pair for a number of agents.
-pub fn ratio_for(agents: usize) -> Ratio
+pub(crate) fn ratio_for(agents: usize) -> Ratio
     requires { ⌜ (1 ≤ agents) × (agents ≤ mostAgents) ⌝ }
     ensures { λ r. ⌜ r ≡ pair (termsFor agents) ⌝ }
 {

@@ -80,7 +80,7 @@ fn is_wanted(fits: Fits, agents: &[u8], bundle: u8) -> bool
 }
 
 // The bundles of 1 .. bundles that suit none of the agents who wait.
-pub fn free(fits: Fits, waiting: &[u8], bundles: usize) -> Numbers
+pub(crate) fn free(fits: Fits, waiting: &[u8], bundles: usize) -> Numbers
     requires { ⌜ Within mostAgents (now waiting) × (bundles ≤ mostAgents) ⌝ }
     ensures { λ r. ⌜ r ≡ numbered (freeBundles (fitsOf fits) (now (waiting .entry)) (range 1 bundles)) ⌝ }
 {
@@ -97,7 +97,7 @@ pub fn free(fits: Fits, waiting: &[u8], bundles: usize) -> Numbers
 }
 
 // The agents that do not wait.
-pub fn served(waiting: &[u8], agents: &[u8]) -> Numbers
+pub(crate) fn served(waiting: &[u8], agents: &[u8]) -> Numbers
     requires { do ⌜ (← ⟦agents.len()⟧) ≤ mostAgents ⌝ }
     ensures { λ r. ⌜ r ≡ numbered (servedAgents (now (waiting .entry)) (now (agents .entry))) ⌝ }
 {
@@ -145,7 +145,7 @@ fn largest(fits: Fits, others: &[u8], bundles: usize, chosen: Numbers, best: Num
 }
 
 // The agents that wait: the first largest tight set of the agents without the cutter.
-pub fn waiting(fits: Fits, others: &[u8], bundles: usize) -> Numbers
+pub(crate) fn waiting(fits: Fits, others: &[u8], bundles: usize) -> Numbers
     requires { do ⌜ Within mostAgents (now others) × (bundles ≤ mostAgents) × ((← ⟦others.len()⟧) ≤ mostAgents) ⌝ }
     ensures { λ r. ⌜ r ≡ numbered (waitingSet (fitsOf fits) (now (others .entry)) (range 1 bundles)) ⌝ }
 {
@@ -180,7 +180,7 @@ fn extend(fits: Fits, served: &[u8], free: &[u8], chosen: Numbers) -> Numbers
 }
 
 // The first matching of the agents served with the free bundles: the bundle of each agent.
-pub fn matched(fits: Fits, served: &[u8], free: &[u8]) -> Numbers
+pub(crate) fn matched(fits: Fits, served: &[u8], free: &[u8]) -> Numbers
     requires { do ⌜ Within mostAgents (now served) × Within mostAgents (now free) × ((← ⟦served.len()⟧) ≤ mostAgents) ⌝ }
     ensures { λ r. ⌜ r ≡ numbered (matching (fitsOf fits) (now (served .entry)) (now (free .entry))) ⌝ }
 {

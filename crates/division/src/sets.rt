@@ -47,7 +47,7 @@ fn bundle_set(set: u16, partition: Partition, number: u8) -> u16
 }
 
 // The set of each bundle of the partition.
-pub fn bundle_sets(set: u16, partition: Partition) -> Sets
+pub(crate) fn bundle_sets(set: u16, partition: Partition) -> Sets
     requires { ⌜ set < 2 ^ mostItems ⌝ }
     ensures { λ r. ⌜ r ≡ bundleSets set partition ⌝ }
 {
@@ -61,7 +61,7 @@ pub fn bundle_sets(set: u16, partition: Partition) -> Sets
 }
 
 // The sets of the bundles chosen, 0 after the last.
-pub fn chosen_sets(sets: Sets, chosen: &[u8]) -> Sets
+pub(crate) fn chosen_sets(sets: Sets, chosen: &[u8]) -> Sets
     requires { do ⌜ Within mostAgents (now chosen) × ((← ⟦chosen.len()⟧) ≤ mostAgents) ⌝ }
     ensures { λ r. ⌜ r ≡ (numbered (map (nth 0 sets) (now (chosen .entry)))) .numbers ⌝ }
 {
@@ -76,7 +76,7 @@ pub fn chosen_sets(sets: Sets, chosen: &[u8]) -> Sets
 }
 
 // The set without the sets that are handed out.
-pub fn left_of(set: u16, handed: Sets) -> u16
+pub(crate) fn left_of(set: u16, handed: Sets) -> u16
     requires { ⌜ total handed ≤ set ⌝ }
     ensures { λ r. ⌜ r ≡ set - total handed ⌝ }
 {

@@ -59,7 +59,7 @@ fn settle(fits: Fits, sets: Sets, agents: &[u8], set: u16) -> Settled
 }
 
 // One round of the agents left and the set of the items left: the first agent cuts.
-pub fn settle_round(
+pub(crate) fn settle_round(
     table: Table,
     shares: Shares,
     top: u64,

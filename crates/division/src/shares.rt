@@ -28,7 +28,7 @@ pub struct Shares {
 }
 
 // The set of the items 1 .. pieces.
-pub fn all_items(pieces: usize) -> u16
+pub(crate) fn all_items(pieces: usize) -> u16
     requires { ⌜ pieces ≤ mostItems ⌝ }
     ensures { λ r. ⌜ (r < 2 ^ pieces) × (items r ≡ range 1 pieces) ⌝ }
 {
@@ -42,7 +42,7 @@ pub fn all_items(pieces: usize) -> u16
 }
 
 // The share and the cut of the items of a set in `bundles` bundles.
-pub fn own_cut(valuation: Row, set: u16, bundles: usize) -> OwnCut
+pub(crate) fn own_cut(valuation: Row, set: u16, bundles: usize) -> OwnCut
     requires { ⌜ (1 ≤ bundles) × (bundles ≤ mostAgents) × (set < 2 ^ mostItems) ⌝ }
     ensures { λ r. ⌜ (r ≡ ownCut bundles (valuesOf valuation set)) × (r .share ≤ greatestValue) ⌝ }
 {
@@ -57,7 +57,7 @@ pub fn own_cut(valuation: Row, set: u16, bundles: usize) -> OwnCut
 }
 
 // The share and the cut of each agent: over all items, and in as many bundles as there are agents.
-pub fn share_each(table: Table, yards: usize, pieces: usize) -> Shares
+pub(crate) fn share_each(table: Table, yards: usize, pieces: usize) -> Shares
     requires { ⌜ InUse yards pieces ⌝ }
     ensures { λ r. ⌜ (r ≡ sharesOf yards pieces table) × SmallShares (r .shares) ⌝ }
 {
@@ -80,7 +80,7 @@ pub fn share_each(table: Table, yards: usize, pieces: usize) -> Shares
 }
 
 // The makers' check, refusal 9: whether an agent's share times the number of agents exceeds the sum of its marks.
-pub fn share_exceeds(table: Table, yards: usize, pieces: usize, shares: [u64; Sheet::YARDS]) -> bool
+pub(crate) fn share_exceeds(table: Table, yards: usize, pieces: usize, shares: [u64; Sheet::YARDS]) -> bool
     requires { ⌜ InUse yards pieces × (shares ≡ sharesFor yards pieces table) ⌝ }
     ensures { λ r. ⌜ r ≡ shareExceeds yards (profile yards pieces table) ⌝ }
 {

@@ -38,7 +38,7 @@ fn fits_row(valuation: Row, share: u64, top: u64, bottom: u64, sets: Sets) -> [b
 }
 
 // Which of the sets suit which agent.
-pub fn fits_table(table: Table, shares: Shares, top: u64, bottom: u64, sets: Sets) -> Fits
+pub(crate) fn fits_table(table: Table, shares: Shares, top: u64, bottom: u64, sets: Sets) -> Fits
     requires { ⌜ SmallTerms top bottom × SmallShares shares ⌝ }
     ensures { λ r. ⌜ r ≡ fitsTable table shares top bottom sets ⌝ }
 {
