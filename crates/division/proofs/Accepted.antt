@@ -12,18 +12,20 @@ use Rattle.lists.proofs.Zeros.{getD-zeros}
 use Rattle.lists.proofs.Distinct.{range-distinct}
 use Rattle.sheet.specs.Limits.{mostAgents, mostItems}
 use Rattle.sheet.specs.Sets.{items, setOf}
-use Rattle.cut.specs.Share.{maximinShare}
+use Rattle.cut.specs.Share.{maximinShare, maximinPartition}
+use Rattle.cut.specs.Outcome.{padded}
 use Rattle.division.specs.Ratio.{largestOdd, termsFor}
-use Rattle.division.specs.Valuations.{profile}
+use Rattle.division.specs.Valuations.{valuation, allValues, profile}
 use Rattle.division.specs.Grade.{grade}
 use Rattle.division.specs.Division.{divided, standardInstance, allRounds, allocation, divisionOf}
 use Rattle.division.specs.Outcome.{perAgent, outcome}
 use Rattle.division.specs.internal.Shares.{InUse, sharesFor, sharesOf}
 use Rattle.division.specs.internal.Suiting.{SmallShares}
-use Rattle.division.specs.internal.Settling.{instanceFrom}
+use Rattle.division.specs.internal.Settling.{instanceFrom, KnownRounds}
 use Rattle.division.specs.internal.Grading.{OfItems}
 use Rattle.division.specs.internal.Allocation.{allottedAll, Ready}
 use Rattle.division.specs.declared.Answer.the-variants.{Divided}
+use Rattle.division.specs.declared.Cut.{Cut}
 use Rattle.division.specs.declared.shares.Shares.{Shares}
 use Rattle.division.proofs.Ratio.{termsFor-allowed}
 use Rattle.division.proofs.Allocation.{sound, allocation-sublist}
@@ -56,6 +58,12 @@ ready-all n m set shares within small below =
       };
       places = omega (arith, length-range 1 n, within .few);
     }
+
+-- the first agent's cut is the partition of the first round
+pub known-all : (n m : ℕ) (table : List (List ℕ)) (other : Cut) → InUse n m → KnownRounds n (getD (sharesOf n m table .cuts) 0 other .partition) table (range 1 n) (range 1 m)
+unfolding profile
+known-all zero m table other within = absurd (omega (arith, within .some))
+known-all (suc n) m table other within = (omega (arith, length-range 1 (suc n)), λ all. ap (λ k. padded (maximinPartition k (allValues m (valuation table 1)))) (sym all))
 
 -- the set in each place, where sets stand in the first places and 0 in the others
 getD-setOf : (bundles : List (List ℕ)) (k i : ℕ) → getD (map setOf bundles ++ zeros k) i 0 ≡ setOf (getD bundles i [])

@@ -21,8 +21,8 @@ use Rattle.sheet.proofs.Sets.{items-setOf}
 use Rattle.sheet.proofs.Items.{items-sublist, setOf-items}
 use Rattle.sheet.proofs.Ranges.{range-sublist, setOf-below}
 use Rattle.cut.specs.Share.{maximinPartition}
-use Rattle.cut.specs.Outcome.{cutting, padded, outcome}
-use Rattle.cut.proofs.Laws.{cutting-shared, maximinPartition-within}
+use Rattle.cut.specs.Outcome.{padded}
+use Rattle.cut.proofs.Laws.{maximinPartition-within}
 use Rattle.matching.specs.Matching.{servedAgents, wanted, freeBundles}
 use Rattle.matching.proofs.Congruence.{Agree}
 use Rattle.matching.proofs.Chosen.{chosen-distinct, chosen-free}
@@ -56,12 +56,10 @@ module _ {agents : List ℕ} {set : ℕ} (left : Remaining agents set) (some : 1
   abbrev pub cutSets : List ℕ
   cutSets = bundleSets set (padded l)
 
-  -- the cut's answer holds the cutter's partition
-  pub cut-partition : (row : List ℕ) → row ≡ valuation table (cutterOf agents) → (outcome (cutting row set n)) .partition ≡ padded l
+  -- the partition of the cutter's row is the cutter's partition
+  pub cut-partition : (row : List ℕ) → row ≡ valuation table (cutterOf agents) → padded (maximinPartition n (valuesOf row set)) ≡ padded l
   unfolding valuesOf
-  cut-partition row e =
-      ap (λ k. (outcome k) .partition) (cutting-shared row set n some (left .few) (left .small-set))
-      ∙ ap (λ v. padded (maximinPartition n (map (valueOf v) (items set)))) e
+  cut-partition row e = ap (λ v. padded (maximinPartition n (map (valueOf v) (items set)))) e
 
   entry-each : length l ≡ length (items set)
   entry-each =

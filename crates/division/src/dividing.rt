@@ -4,11 +4,12 @@ ghost use Prim.Native.Nat.{_+_, _≤_, _<_};
 ghost use Rattle.lists.specs.Lists.{Within};
 ghost use Rattle.sheet.specs.Limits.{mostAgents};
 ghost use Rattle.division.specs.internal.Allocation.{stored, withRound, allottedAll, Ready};
-ghost use Rattle.division.specs.internal.Settling.{instanceFrom};
+ghost use Rattle.division.specs.internal.Settling.{instanceFrom, KnownRounds};
 ghost use Rattle.sheet.specs.Sets.{items};
 use crate::sets::Sets;
 use crate::settling::settle_round;
 use crate::suiting::Shares;
+use cut::Partition;
 use sheet::Sheet;
 use sheet::Table;
 
@@ -52,6 +53,7 @@ fn hand_out(allocation: Allocation, cutter: u8, served: &[u8], sets: Sets) -> Al
 }
 
 // The allocation once the agents left have divided the items left: one round, and the agents that wait divide what it leaves.
+// `own` is the first agent's cut of all items into `yards` bundles, for the round in which all agents are left.
 pub(crate) fn divide_left(
     table: Table,
     shares: Shares,
@@ -59,15 +61,17 @@ pub(crate) fn divide_left(
     bottom: u64,
     agents: &[u8],
     set: u16,
+    yards: usize,
+    own: Partition,
     allocation: Allocation,
 ) -> Allocation
-    requires { ⌜ Ready top bottom shares (now agents) set allocation ⌝ }
+    requires { ⌜ Ready top bottom shares (now agents) set allocation × KnownRounds yards own table (now agents) (items set) ⌝ }
     ensures { λ r. ⌜ r ≡ allottedAll (instanceFrom top bottom table shares) (now (agents .entry)) (items set) allocation ⌝ }
 {
     if agents.len() == 0 {
         return allocation;
     }
-    let settled = settle_round(table, shares, top, bottom, agents, set);
+    let settled = settle_round(table, shares, top, bottom, agents, set, yards, own);
     let served = settled.served;
     let served_numbers = served.numbers;
     let served_count = served.count;
@@ -88,6 +92,8 @@ pub(crate) fn divide_left(
         bottom,
         &waiting_numbers[..waiting_count],
         settled.left,
+        yards,
+        own,
         given,
     )
 }

@@ -85,6 +85,8 @@ fn divide_accepted(table: Table, yards: usize, pieces: usize, own: Shares) -> Ou
 {
     let shares = own.shares;
     let cuts = own.cuts;
+    let first = cuts[0];
+    let partition = first.partition;
     let ratio = ratio_for(yards);
     let agents = all_agents();
     let set = all_items(pieces);
@@ -100,6 +102,8 @@ fn divide_accepted(table: Table, yards: usize, pieces: usize, own: Shares) -> Ou
         ratio.bottom,
         &agents[..yards],
         set,
+        yards,
+        partition,
         nothing,
     );
     let bundles = allocation.bundles;

@@ -1,11 +1,15 @@
 // One round: who cuts, who waits, who is served with what, and what is left.
 ghost use mathlib.Core.Path.{_≡_};
-ghost use Prim.Native.Nat.{_≤_};
+ghost use Prim.Native.Nat.{_≤_, _<_, _^_};
+ghost use Rattle.sheet.specs.Limits.{mostAgents, mostItems};
 ghost use Rattle.sheet.specs.Sets.{items};
+ghost use Rattle.sheet.specs.Valuations.{valuesOf};
+ghost use Rattle.cut.specs.Share.{maximinPartition};
+ghost use Rattle.cut.specs.Outcome.{padded};
 ghost use Rattle.division.specs.Round.{round};
 ghost use Rattle.division.specs.internal.Numbers.{fitsOf};
 ghost use Rattle.division.specs.internal.Suiting.{SmallTerms, SmallShares};
-ghost use Rattle.division.specs.internal.Settling.{Remaining, Parts, instanceFrom, settled, settledBy};
+ghost use Rattle.division.specs.internal.Settling.{Remaining, Parts, KnownCut, KnownRound, instanceFrom, settled, settledBy};
 use crate::serving;
 use crate::serving::Fits;
 use crate::serving::Numbers;
@@ -13,6 +17,8 @@ use crate::sets;
 use crate::sets::Sets;
 use crate::suiting;
 use crate::suiting::Shares;
+use cut::Partition;
+use sheet::Row;
 use sheet::Table;
 
 // What one round settles: its cutter, the agents served with the sets of their bundles at the same places, the agents that wait,
@@ -58,7 +64,21 @@ fn settle(fits: Fits, sets: Sets, agents: &[u8], set: u16) -> Settled
     }
 }
 
-// One round of the agents left and the set of the items left: the first agent cuts.
+// The partition of a set into as many bundles as there are agents left: where all of them are left, the cutter's own cut of all items
+// is that partition, and is not worked out again.
+fn cut_left(valuation: Row, set: u16, bundles: usize, yards: usize, own: Partition) -> Partition
+    requires { ⌜ (1 ≤ bundles) × (bundles ≤ mostAgents) × (set < 2 ^ mostItems) × KnownCut yards own bundles (valuesOf valuation set) ⌝ }
+    ensures { λ r. ⌜ r ≡ padded (maximinPartition bundles (valuesOf valuation set)) ⌝ }
+{
+    if bundles == yards {
+        return own;
+    }
+    let cutting = cut::cut(valuation, set, bundles as u8);
+    let partition = cutting.partition;
+    partition
+}
+
+// One round of the agents left and the set of the items left: the first agent cuts. `own` is the first agent's cut of all items.
 pub(crate) fn settle_round(
     table: Table,
     shares: Shares,
@@ -66,15 +86,17 @@ pub(crate) fn settle_round(
     bottom: u64,
     agents: &[u8],
     set: u16,
+    yards: usize,
+    own: Partition,
 ) -> Settled
     requires { do ⌜ SmallTerms top bottom × SmallShares shares × Remaining (now agents) set × (1 ≤ (← ⟦agents.len()⟧)) ⌝ }
+    requires { ⌜ KnownRound yards own table (now agents) (items set) ⌝ }
     ensures { λ r. ⌜ r ≡ settled (round (instanceFrom top bottom table shares) (now (agents .entry)) (items set)) ⌝ }
 {
     let cutter = agents[0] as usize;
     let valuation = table[cutter - 1];
     let bundles = agents.len();
-    let cutting = cut::cut(valuation, set, bundles as u8);
-    let partition = cutting.partition;
+    let partition = cut_left(valuation, set, bundles, yards, own);
     let sets = sets::bundle_sets(set, partition);
     let fits = suiting::fits_table(table, shares, top, bottom, sets);
     settle(fits, sets, agents, set)

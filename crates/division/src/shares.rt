@@ -80,7 +80,12 @@ pub(crate) fn share_each(table: Table, yards: usize, pieces: usize) -> Shares
 }
 
 // The makers' check, refusal 9: whether an agent's share times the number of agents exceeds the sum of its marks.
-pub(crate) fn share_exceeds(table: Table, yards: usize, pieces: usize, shares: [u64; Sheet::YARDS]) -> bool
+pub(crate) fn share_exceeds(
+    table: Table,
+    yards: usize,
+    pieces: usize,
+    shares: [u64; Sheet::YARDS],
+) -> bool
     requires { ⌜ InUse yards pieces × (shares ≡ sharesFor yards pieces table) ⌝ }
     ensures { λ r. ⌜ r ≡ shareExceeds yards (profile yards pieces table) ⌝ }
 {

@@ -1,7 +1,7 @@
 -- `division::divide_accepted` meets its contract: what the rounds hand out, its grade, the shares and the cuts are those of the definition.
 -- Assumes nothing.
 use mathlib.Core.Path.{_≡_, sym, ap, ap₂, _∙_}
-use mathlib.Core.List.{List}
+use mathlib.Core.List.{List, []}
 use Prim.Native.Nat.{ℕ}
 use native.Mathlib.Omega.{arith}
 use lib.ListN.{length, take}
@@ -18,21 +18,21 @@ use Rattle.division.specs.internal.Allocation.{allottedAll}
 use Rattle.division.specs.declared.pairs.Ratio.{Ratio}
 use Rattle.division.specs.declared.dividing.Allocation.{Allocation}
 use Rattle.division.proofs.AllRounds.{nothing}
-use Rattle.division.proofs.Accepted.{take-range, ready-all, bundleSets, turns, of-items, allotted-accepted, outcome-accepted}
+use Rattle.division.proofs.Accepted.{take-range, ready-all, known-all, bundleSets, turns, of-items, allotted-accepted, outcome-accepted}
 use Rattle.division.proofs.divide_accepted.Statement.{statement}
 use Rattle.division.proofs.divide_accepted.Tie as tie
 
 -- the first yards of all agents
-agents-all : (c : tie.After-all-agents) → let n = c .before .before .before .before .args .yards in take n (c .all-agents .result) ≡ range 1 n
-agents-all c = let n = c .before .before .before .before .args .yards in ap (take n) (c .all-agents .ensures) ∙ take-range 1 n mostAgents (omega arith)
+agents-all : (c : tie.After-all-agents) → let n = c .before .before .before .before .before .before .args .yards in take n (c .all-agents .result) ≡ range 1 n
+agents-all c = let n = c .before .before .before .before .before .before .args .yards in ap (take n) (c .all-agents .ensures) ∙ take-range 1 n mostAgents (omega arith)
 
 -- what the rounds hand out
 handed : (c : tie.After-divide-left)
-    → let s = c .before .before .before .before .before .before .before in
+    → let s = c .before .before .before .before .before .before .before .before .before in
     (c .divide-left .result .bundles ≡ bundleSets (s .args .yards) (s .args .pieces) (s .args .table) (s .pre .0))
     × (c .divide-left .result .cutters ≡ turns (s .args .yards) (s .args .pieces) (s .args .table) (s .pre .0))
 handed c =
-    let s = c .before .before .before .before .before .before .before in
+    let s = c .before .before .before .before .before .before .before .before .before in
     let a = s .args in
     let ratio = c .before .before .before .before .ratio-for in
     let all = c .before .before .all-items in
@@ -44,6 +44,9 @@ handed c =
     ∙ ap₂ (run (pair (termsFor (a .yards))) (sharesFor (a .yards) (a .pieces) (a .table))) (agents-all (c .before .before .before)) (all .ensures .1) in
     let accepted = allotted-accepted (a .yards) (a .pieces) (a .table) (s .pre .0) in
     (ap (λ r. r .bundles) out ∙ accepted .0, ap (λ r. r .cutters) out ∙ accepted .1)
+
+array-copy-out-first : tie.Need-array-copy-out-first
+array-copy-out-first c = search needs
 
 ratio-for-requires : tie.Need-ratio-for-requires
 ratio-for-requires c κs = search needs
@@ -58,22 +61,24 @@ array-share-prefix-agents : tie.Need-array-share-prefix-agents
 array-share-prefix-agents c = search needs
 
 slice-aggregate-divide-left : tie.Need-slice-aggregate-divide-left
-slice-aggregate-divide-left c = sym (ap length (agents-all (c .before .before)) ∙ length-range 1 (c .before .before .before .before .before .before .args .yards))
+slice-aggregate-divide-left c = sym (ap length (agents-all (c .before .before)) ∙ length-range 1 (c .before .before .before .before .before .before .before .before .args .yards))
 
 divide-left-requires : tie.Need-divide-left-requires
 divide-left-requires c κs =
-    let s = c .before .before .before .before .before .before in
-    rw (c .before .before .before .ratio-for .ensures, agents-all (c .before .before))
-    (ready-all (s .args .yards) (s .args .pieces) (c .before .all-items .result) (s .args .own .shares) (s .pre .0) (s .pre .2) (c .before .all-items .ensures .0))
+    let s = c .before .before .before .before .before .before .before .before in
+    let a = s .args in
+    let ready = ready-all (a .yards) (a .pieces) (c .before .all-items .result) (a .own .shares) (s .pre .0) (s .pre .2) (c .before .all-items .ensures .0) in
+    let known = known-all (a .yards) (a .pieces) (a .table) (record { partition = [] }) (s .pre .0) in
+    rw (c .before .before .before .ratio-for .ensures, agents-all (c .before .before), c .before .all-items .ensures .1) (ready, (known .0, rw (s .pre .1) (known .1)))
 
 grade-of-requires : tie.Need-grade-of-requires
 grade-of-requires c κs =
-    let s = c .before .before .before .before .before .before .before .before .before in
+    let s = c .before .before .before .before .before .before .before .before .before .before .before in
     (s .pre .0, rw (handed (c .before .before) .0) (of-items (s .args .yards) (s .args .pieces) (s .args .table) (s .pre .0)))
 
 returns : tie.Need-returns
 returns c =
-    let s = c .before .before .before .before .before .before .before .before .before .before in
+    let s = c .before .before .before .before .before .before .before .before .before .before .before .before in
     let a = s .args in
     let (sets, cutters) = handed (c .before .before .before) in
     outcome-accepted (a .yards) (a .pieces) (a .table) (s .pre .0) _ _ _ _ (c .grade-of .ensures) sets cutters (s .pre .1)
@@ -82,6 +87,7 @@ pub divide-accepted-spec : {M : Type 1} → statement M
 divide-accepted-spec =
     tie.close
     (tie.spec
+    array-copy-out-first
     ratio-for-requires
     all-agents-requires
     all-items-requires

@@ -9,7 +9,11 @@ use Rattle.lists.specs.Lists.{range, nth, distinct, Within}
 use Rattle.lists.specs.Sums.{total}
 use Rattle.sheet.specs.Limits.{mostAgents, mostItems}
 use Rattle.sheet.specs.Sets.{setOf}
+use Rattle.sheet.specs.Valuations.{valueOf}
+use Rattle.cut.specs.Share.{maximinPartition}
+use Rattle.cut.specs.Outcome.{padded}
 use Rattle.matching.specs.Matching.{without, servedAgents, waitingSet, freeBundles, matching}
+use Rattle.division.specs.Valuations.{valuation}
 use Rattle.division.specs.Round.{Round, Instance, cutterOf}
 use Rattle.division.specs.internal.Numbers.{numbered}
 use Rattle.division.specs.declared.settling.Settled.{Settled}
@@ -20,6 +24,18 @@ pub record Remaining (agents : List ℕ) (set : ℕ) : Type 0 where
   pub within : Within mostAgents agents
   pub once : distinct agents ≡ true
   pub small-set : set < 2 ^ mostItems
+
+-- where so many bundles are made as there are agents on the sheet, the partition of the values is known
+abbrev pub KnownCut : ℕ → List ℕ → ℕ → List ℕ → Type 0
+KnownCut yards own bundles values = bundles ≡ yards → own ≡ padded (maximinPartition bundles values)
+
+-- where all agents are left, the cutter's partition of the items left is known
+abbrev pub KnownRound : ℕ → List ℕ → List (List ℕ) → List ℕ → List ℕ → Type 0
+KnownRound yards own table agents items = KnownCut yards own (length agents) (map (valueOf (valuation table (cutterOf agents))) items)
+
+-- and there are never more agents left
+abbrev pub KnownRounds : ℕ → List ℕ → List (List ℕ) → List ℕ → List ℕ → Type 0
+KnownRounds yards own table agents items = (length agents ≤ yards) × KnownRound yards own table agents items
 
 -- the sets of different bundles are parts of the set that have no item in common: together they are at most the set
 abbrev pub Parts : List ℕ → ℕ → Type 0

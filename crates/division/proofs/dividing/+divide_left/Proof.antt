@@ -101,7 +101,7 @@ module _ (t : ℕ) where
       let s = at-round .before .before .before in
       let r = this-round s in
       let G = instance s in
-      let left-items = ap (λ q. items (q .left)) (at-round .settle-round .ensures) ∙ items-left (s .pre .1 .left) (some-left at-round) G in
+      let left-items = ap (λ q. items (q .left)) (at-round .settle-round .ensures) ∙ items-left (s .pre .1 .0 .left) (some-left at-round) G in
       c .divide-left .ensures
       ∙ ap (λ agents. allottedAll G agents (items (at-round .settle-round .result .left)) (at-given .hand-out .result)) (list-is (waiting-lists at-round))
       ∙ ap₂ (allottedAll G (r .waiting)) left-items (given-is at-given)
@@ -110,7 +110,7 @@ module _ (t : ℕ) where
   returns c = let s = c .before .before in sym (allotted-none (instance s) (s .args .agents .now) (items (s .args .set)) (s .args .allocation) (c .if1 .taken))
 
   settle-round-requires : lts.Need-settle-round-requires (claims t) (divide-left-at t) divide-left.Post
-  settle-round-requires c κs = let ready = c .before .before .pre .1 in (ready .terms, ready .light, ready .left, omega arith)
+  settle-round-requires c κs = let pre = c .before .before .pre .1 in ((pre .0 .terms, pre .0 .light, pre .0 .left, omega arith), pre .1 .1)
 
   array-share-prefix-served-numbers : lts.Need-array-share-prefix-served-numbers (claims t) (divide-left-at t) divide-left.Post
   array-share-prefix-served-numbers c = part-fits (served-lists (c .before .before .before))
@@ -122,10 +122,10 @@ module _ (t : ℕ) where
   hand-out-requires c κs =
       let at-round = c .before .before .before .before in
       let s = at-round .before .before .before in
-      let left = s .pre .1 .left in (
+      let left = s .pre .1 .0 .left in (
         part-within (served-lists at-round) (served-within left (some-left at-round) (instance s)),
         part-few (served-lists at-round) (served-few left (some-left at-round) (instance s)),
-        omega (arith, s .pre .1 .places, some-left at-round),
+        omega (arith, s .pre .1 .0 .places, some-left at-round),
       )
 
   array-share-prefix-waiting-numbers : lts.Need-array-share-prefix-waiting-numbers (claims t) (divide-left-at t) divide-left.Post
@@ -140,16 +140,22 @@ module _ (t : ℕ) where
       let at-round = at-given .before .before .before .before .before in
       let s = at-round .before .before .before in
       let r = this-round s in
-      let ready = s .pre .1 in
+      let ready = s .pre .1 .0 in
       let left-set = ap (λ q. q .left) (at-round .settle-round .ensures) in
       let fewer = waiting-falls (instance s) (s .args .agents .now) (items (s .args .set)) (some-left at-round) in (
         omega (arith, s .pre .0, ap length (list-is (waiting-lists at-round)), fewer),
-        record {
-          terms = ready .terms;
-          light = ready .light;
-          left = rw (list-is (waiting-lists at-round), left-set) (remaining-next (ready .left) (some-left at-round) (instance s));
-          places = omega (arith, ready .places, ap length (list-is (waiting-lists at-round)), fewer, ap (λ a. a .rounds) (given-is at-given));
-        },
+        (
+          record {
+            terms = ready .terms;
+            light = ready .light;
+            left = rw (list-is (waiting-lists at-round), left-set) (remaining-next (ready .left) (some-left at-round) (instance s));
+            places = omega (arith, ready .places, ap length (list-is (waiting-lists at-round)), fewer, ap (λ a. a .rounds) (given-is at-given));
+          },
+          (
+            omega (arith, s .pre .1 .1 .0, ap length (list-is (waiting-lists at-round)), fewer),
+            λ all. absurd (omega (arith, s .pre .1 .1 .0, ap length (list-is (waiting-lists at-round)), fewer)),
+          ),
+        ),
       )
 
   returns-2 : lts.Need-returns-2 (claims t) (divide-left-at t) divide-left.Post

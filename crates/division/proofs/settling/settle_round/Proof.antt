@@ -1,6 +1,6 @@
 -- `division::settling::settle_round` meets its contract: the cut's partition, its sets and the table of what suits whom are those of
 -- the definition's round. Assumes nothing.
-use mathlib.Core.Path.{_≡_, ap, _∙_}
+use mathlib.Core.Path.{_≡_, sym, ap, _∙_}
 use mathlib.Core.List.{List, []}
 use Prim.Native.Nat.{ℕ, _-_, _≤_}
 use native.Mathlib.Omega.{arith}
@@ -9,6 +9,8 @@ use borrow.Author.Needs.{needs}
 use Rattle.sheet.specs.Limits.{mostAgents}
 use Rattle.sheet.specs.Sets.{items}
 use Rattle.cut.specs.Outcome.{padded}
+use Rattle.sheet.specs.Valuations.{valuesOf}
+use Rattle.division.specs.Valuations.{valuation}
 use Rattle.division.specs.Round.{cutterOf, cutBy}
 use Rattle.division.specs.internal.Numbers.{fitsOf}
 use Rattle.division.specs.internal.Sets.{bundleSets}
@@ -22,7 +24,11 @@ use Rattle.division.proofs.settling.settle_round.Tie as tie
 
 -- the cutter is one of the agents that a table has
 cutter-within : (c : tie.Start) → (1 ≤ getD (c .args .agents .now) 0 0) × (getD (c .args .agents .now) 0 0 ≤ mostAgents)
-cutter-within c = within-at mostAgents (c .args .agents .now) (c .pre .2 .within) 0 (c .pre .3)
+cutter-within c = within-at mostAgents (c .args .agents .now) (c .pre .0 .2 .within) 0 (c .pre .0 .3)
+
+-- the row that is read is the cutter's
+row-is : (c : tie.Start) → let a = c .args in getD (a .t1) (getD (a .agents .now) 0 0 - 1) [] ≡ valuation (a .t1) (cutterOf (a .agents .now))
+row-is c = ap (λ k. getD (c .args .t1) (k - 1) []) (cutter-first (c .pre .0 .2) (c .pre .0 .3))
 
 -- the sets of the bundles of the cutter's partition
 abbrev cut-sets : tie.Start → List ℕ
@@ -30,22 +36,21 @@ cut-sets c =
     let a = c .args in
     bundleSets (a .set) (padded (cutBy (instanceFrom (a .top) (a .bottom) (a .t1) (a .shares)) (cutterOf (a .agents .now)) (length (a .agents .now)) (items (a .set))))
 
-sets-are : (c : tie.After-bundle-sets) → c .bundle-sets .result ≡ cut-sets (c .before .before .before .before .before .before)
+sets-are : (c : tie.After-bundle-sets) → c .bundle-sets .result ≡ cut-sets (c .before .before .before .before .before)
 sets-are c =
-    let at-cut = c .before .before in
+    let at-cut = c .before in
     let start = at-cut .before .before .before .before in
     let a = start .args in
-    let row = ap (λ k. getD (a .t1) (k - 1) []) (cutter-first (start .pre .2) (start .pre .3)) in
     c .bundle-sets .ensures
-    ∙ ap (bundleSets (a .set)) (ap (λ o. o .partition) (at-cut .cut .ensures) ∙ cut-partition (start .pre .2) (start .pre .3) (a .top) (a .bottom) (a .t1) (a .shares) _ row)
+    ∙ ap (bundleSets (a .set)) (at-cut .cut-left .ensures ∙ cut-partition (start .pre .0 .2) (start .pre .0 .3) (a .top) (a .bottom) (a .t1) (a .shares) _ (row-is start))
 
 -- the table says which of them suit whom
 fits-are : (c : tie.After-fits-table)
-    → let start = c .before .before .before .before .before .before .before in
+    → let start = c .before .before .before .before .before .before in
     let a = start .args in
     c .fits-table .result ≡ fitsTable (a .t1) (a .shares) (a .top) (a .bottom) (cut-sets start)
 fits-are c =
-    let a = c .before .before .before .before .before .before .before .args in
+    let a = c .before .before .before .before .before .before .args in
     c .fits-table .ensures ∙ ap (fitsTable (a .t1) (a .shares) (a .top) (a .bottom)) (sets-are (c .before))
 
 shared-slice-read-cutter : tie.Need-shared-slice-read-cutter
@@ -63,34 +68,36 @@ mul-valuation c = omega (arith, cutter-within (c .before .before))
 array-copy-out-valuation : tie.Need-array-copy-out-valuation
 array-copy-out-valuation c = omega (arith, cutter-within (c .before .before))
 
-cast-cut : tie.Need-cast-cut
-cast-cut c = omega (arith, c .before .before .before .pre .2 .few)
-
-cut-requires : tie.Need-cut-requires
-cut-requires c κs = tt
+cut-left-requires : tie.Need-cut-left-requires
+unfolding valuesOf
+cut-left-requires c κs =
+    let start = c .before .before .before in
+    let a = start .args in
+    let left = start .pre .0 .2 in
+    (start .pre .0 .3, left .few, left .small-set, λ all. start .pre .1 all ∙ sym (cut-partition left (start .pre .0 .3) (a .top) (a .bottom) (a .t1) (a .shares) _ (row-is start)))
 
 bundle-sets-requires : tie.Need-bundle-sets-requires
-bundle-sets-requires c κs = c .before .before .before .before .before .pre .2 .small-set
+bundle-sets-requires c κs = c .before .before .before .before .pre .0 .2 .small-set
 
 fits-table-requires : tie.Need-fits-table-requires
-fits-table-requires c κs = let start = c .before .before .before .before .before .before in (start .pre .0, start .pre .1)
+fits-table-requires c κs = let start = c .before .before .before .before .before in (start .pre .0 .0, start .pre .0 .1)
 
 settle-requires : tie.Need-settle-requires
 settle-requires c κs =
     let at-sets = c .before in
-    let start = at-sets .before .before .before .before .before .before in
+    let start = at-sets .before .before .before .before .before in
     let a = start .args in
-    (start .pre .2, rw (sets-are at-sets) (cutSets-parts (start .pre .2) (start .pre .3) (a .top) (a .bottom) (a .t1) (a .shares)), start .pre .3)
+    (start .pre .0 .2, rw (sets-are at-sets) (cutSets-parts (start .pre .0 .2) (start .pre .0 .3) (a .top) (a .bottom) (a .t1) (a .shares)), start .pre .0 .3)
 
 returns : tie.Need-returns
 returns c =
     let at-sets = c .before .before in
-    let start = at-sets .before .before .before .before .before .before in
+    let start = at-sets .before .before .before .before .before in
     let a = start .args in
     c .settle .ensures
     ∙ ap (λ sets. settledBy (fitsOf (c .before .fits-table .result)) sets (a .agents .now) (a .set)) (sets-are at-sets)
     ∙ ap (λ t. settledBy (fitsOf t) (cut-sets start) (a .agents .now) (a .set)) (fits-are (c .before))
-    ∙ settled-round (start .pre .2) (start .pre .3) (a .top) (a .bottom) (a .t1) (a .shares)
+    ∙ settled-round (start .pre .0 .2) (start .pre .0 .3) (a .top) (a .bottom) (a .t1) (a .shares)
 
 pub settle-round-spec : {M : Type 1} → statement M
 settle-round-spec =
@@ -101,8 +108,7 @@ settle-round-spec =
     sub-valuation
     mul-valuation
     array-copy-out-valuation
-    cast-cut
-    cut-requires
+    cut-left-requires
     bundle-sets-requires
     fits-table-requires
     settle-requires
