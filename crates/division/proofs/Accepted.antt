@@ -1,14 +1,13 @@
 -- A table that is not refused: where its rounds start, what they hand out, and the grade of that. Assumes nothing.
 use mathlib.Core.Path.{_≡_, refl, sym, ap, ap₂, _∙_}
-use mathlib.Core.List.{List, [], _∷_, _++_, map, List·Memᴰ as Mem, List·Memᴰ·head as here, List·Memᴰ·tail as there}
+use mathlib.Core.List.{List, [], _∷_, map, List·Memᴰ as Mem, List·Memᴰ·head as here, List·Memᴰ·tail as there}
 use mathlib.Core.List.{Sublistᴰ as Sublist, Sublistᴰ·nil-sublist as nil-sublist}
 use Prim.Native.Nat.{ℕ, zero, suc, _-_, _^_, _≤_, _<_}
 use native.Mathlib.Nat.{pow-le-pow-right}
 use native.Mathlib.Omega.{arith}
 use lib.ListN.{length, getD, take, List·getD-map}
-use Rattle.lists.specs.Lists.{range, zeros}
+use Rattle.lists.specs.Lists.{range}
 use Rattle.lists.proofs.Ranges.{in-range, range-bounds, length-range, mem-within}
-use Rattle.lists.proofs.Zeros.{getD-zeros}
 use Rattle.lists.proofs.Distinct.{range-distinct}
 use Rattle.sheet.specs.Limits.{mostAgents, mostItems}
 use Rattle.sheet.specs.Sets.{items, setOf}
@@ -19,14 +18,14 @@ use Rattle.division.specs.Valuations.{valuation, allValues, profile}
 use Rattle.division.specs.Grade.{grade}
 use Rattle.division.specs.Division.{divided, standardInstance, allRounds, allocation, divisionOf}
 use Rattle.division.specs.Outcome.{perAgent, outcome}
-use Rattle.division.specs.internal.Shares.{InUse, sharesFor, sharesOf}
+use Rattle.division.specs.internal.Shares.{InUse, sharesFor, ownCuts}
 use Rattle.division.specs.internal.Suiting.{SmallShares}
 use Rattle.division.specs.internal.Settling.{instanceFrom, KnownRounds}
 use Rattle.division.specs.internal.Grading.{OfItems}
 use Rattle.division.specs.internal.Allocation.{allottedAll, Ready}
 use Rattle.division.specs.declared.Answer.the-variants.{Divided}
 use Rattle.division.specs.declared.Cut.{Cut}
-use Rattle.division.specs.declared.shares.Shares.{Shares}
+use Rattle.division.specs.declared.shares.OwnCuts.{OwnCuts}
 use Rattle.division.proofs.Ratio.{termsFor-allowed}
 use Rattle.division.proofs.Allocation.{sound, allocation-sublist}
 use Rattle.division.proofs.OwnShares.{nth-sharesFor}
@@ -34,7 +33,7 @@ use Rattle.division.proofs.Profile.{nth-shares}
 use Rattle.division.proofs.Grades.{grade-cong}
 use Rattle.division.proofs.Outcomes.{items-setOf-bundle}
 use Rattle.division.proofs.SameRounds.{rounds-standard}
-use Rattle.division.proofs.AllRounds.{nothing, allotted-bundles, allotted-turns}
+use Rattle.division.proofs.AllRounds.{nothing, getD-setOf, allotted-bundles, allotted-cutters-all}
 
 pub take-range : (i k n : ℕ) → k ≤ n → take k (range i n) ≡ range i k
 take-range i zero n le = refl
@@ -60,16 +59,10 @@ ready-all n m set shares within small below =
     }
 
 -- the first agent's cut is the partition of the first round
-pub known-all : (n m : ℕ) (table : List (List ℕ)) (other : Cut) → InUse n m → KnownRounds n (getD (sharesOf n m table .cuts) 0 other .partition) table (range 1 n) (range 1 m)
+pub known-all : (n m : ℕ) (table : List (List ℕ)) (other : Cut) → InUse n m → KnownRounds n (getD (ownCuts n m table .cuts) 0 other .partition) table (range 1 n) (range 1 m)
 unfolding profile
 known-all zero m table other within = absurd (omega (arith, within .some))
 known-all (suc n) m table other within = (omega (arith, length-range 1 (suc n)), λ all. ap (λ k. padded (maximinPartition k (allValues m (valuation table 1)))) (sym all))
-
--- the set in each place, where sets stand in the first places and 0 in the others
-getD-setOf : (bundles : List (List ℕ)) (k i : ℕ) → getD (map setOf bundles ++ zeros k) i 0 ≡ setOf (getD bundles i [])
-getD-setOf [] k i = getD-zeros k i
-getD-setOf (b ∷ bundles) k zero = refl
-getD-setOf (b ∷ bundles) k (suc i) = getD-setOf bundles k i
 
 -- what holds of [] and of each member holds in each place
 getD-holds : (P : List ℕ → Type 0) → P [] → (bundles : List (List ℕ)) → ((b : List ℕ) → Mem b bundles → P b) → (i : ℕ) → P (getD bundles i [])
@@ -83,42 +76,42 @@ module _ (n m : ℕ) (table : List (List ℕ)) (within : InUse n m) where
   bundles = allocation n m (standardInstance n m table)
 
   -- the same as sets, in their places
-  abbrev pub bundleSets : List ℕ
-  bundleSets = perAgent 0 (map setOf bundles)
+  abbrev pub placedSets : List ℕ
+  placedSets = perAgent 0 (map setOf bundles)
 
-  -- the cutters in turn
-  abbrev pub turns : List ℕ
-  turns = perAgent 0 (map (λ r. r .cutter) (allRounds n m (standardInstance n m table)))
+  -- the cutters in turn, in their places
+  abbrev pub placedCutters : List ℕ
+  placedCutters = perAgent 0 (map (λ r. r .cutter) (allRounds n m (standardInstance n m table)))
 
   bundle-sublist : (i : ℕ) → Sublist (getD bundles i []) (range 1 m)
   bundle-sublist = getD-holds (λ b. Sublist b (range 1 m)) (nil-sublist (range 1 m)) bundles (allocation-sublist n m (termsFor n) table)
 
-  items-at : (i : ℕ) → items (getD bundleSets i 0) ≡ getD bundles i []
+  items-at : (i : ℕ) → items (getD placedSets i 0) ≡ getD bundles i []
   items-at i = ap items (getD-setOf bundles (mostAgents - length (map setOf bundles)) i) ∙ items-setOf-bundle m (within .few-items) (bundle-sublist i)
 
-  pub of-items : OfItems m bundleSets
+  pub of-items : OfItems m placedSets
   of-items i = rw (items-at i) (bundle-sublist i)
 
   -- what the code's rounds hand out, from nothing
   pub allotted-accepted : let a = allottedAll (instanceFrom (termsFor n .top) (termsFor n .bottom) table (sharesFor n m table)) (range 1 n) (range 1 m) nothing in
-      (a .bundles ≡ bundleSets) × (a .cutters ≡ turns)
+      (a .bundles ≡ placedSets) × (a .cutters ≡ placedCutters)
   allotted-accepted =
       let s = sound n m (termsFor n) table (termsFor-allowed n) in
-      rw (length-range 1 n, rounds-standard n m table (termsFor n .top) (termsFor n .bottom) refl) (allotted-bundles s (within .few), allotted-turns s (within .few))
+      rw (length-range 1 n, rounds-standard n m table (termsFor n .top) (termsFor n .bottom) refl) (allotted-bundles s (within .few), allotted-cutters-all s (within .few))
 
-  grade-accepted : grade n (profile n m table) (sharesFor n m table) (map items bundleSets) ≡ grade n (profile n m table) (map (maximinShare n) (profile n m table)) bundles
+  grade-accepted : grade n (profile n m table) (sharesFor n m table) (map items placedSets) ≡ grade n (profile n m table) (map (maximinShare n) (profile n m table)) bundles
   unfolding items
   grade-accepted =
-      grade-cong n (profile n m table) (sharesFor n m table) (map (maximinShare n) (profile n m table)) (map items bundleSets) bundles
+      grade-cong n (profile n m table) (sharesFor n m table) (map (maximinShare n) (profile n m table)) (map items placedSets) bundles
       (λ i mi. nth-sharesFor n m table mi ∙ sym (nth-shares n m table mi))
-      (λ i mi. List·getD-map items bundleSets (i - 1) 0 ∙ items-at (i - 1))
+      (λ i mi. List·getD-map items placedSets (i - 1) 0 ∙ items-at (i - 1))
 
   -- the code's answer, from what the rounds hand out
-  pub outcome-accepted : (g : ℕ) (sets cutters : List ℕ) (own : Shares)
-      → g ≡ grade n (profile n m table) (own .shares) (map items sets) → sets ≡ bundleSets → cutters ≡ turns → own ≡ sharesOf n m table
+  pub outcome-accepted : (g : ℕ) (sets cutters : List ℕ) (own : OwnCuts)
+      → g ≡ grade n (profile n m table) (own .shares) (map items sets) → sets ≡ placedSets → cutters ≡ placedCutters → own ≡ ownCuts n m table
       → record { answer = Divided g; bundles = sets; shares = own .shares; cuts = own .cuts; cutters = cutters } ≡ outcome (divided (divisionOf n m (standardInstance n m table)))
   unfolding divisionOf
   outcome-accepted g sets cutters own graded same-sets same-cutters same-own =
       let e : g ≡ grade n (profile n m table) (map (maximinShare n) (profile n m table)) bundles =
-      graded ∙ ap₂ (λ (o : Shares) l. grade n (profile n m table) (o .shares) (map items l)) same-own same-sets ∙ grade-accepted in
+      graded ∙ ap₂ (λ (o : OwnCuts) l. grade n (profile n m table) (o .shares) (map items l)) same-own same-sets ∙ grade-accepted in
       rw (e, same-sets, same-cutters, same-own)

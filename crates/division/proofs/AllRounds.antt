@@ -2,14 +2,14 @@
 use mathlib.Core.Path.{_≡_, refl, sym, ap, _∙_}
 use mathlib.Core.Bool.{Bool, true, false, true≢false}
 use mathlib.Core.Logic.{⊎-elim}
-use mathlib.Core.List.{List, [], _∷_, _++_, map, map-map, List·Memᴰ as Mem, List·Memᴰ·not-nil as not-nil}
+use mathlib.Core.List.{List, [], _∷_, _++_, map, List·Memᴰ as Mem, List·Memᴰ·not-nil as not-nil}
 use Prim.Native.Nat.{ℕ, zero, suc, _+_, _-_, _≤_, _<_}
 use native.Mathlib.Nat.{add-sub-cancel, zero-add}
 use native.Mathlib.Numerals.{add-one}
 use native.Mathlib.Omega.{arith}
-use lib.ListN.{length, getD, length-map, length-append, length-replicate}
-use lib.Seq.{sets, sets-eq, ext-getD, getD-append-add}
-use Rattle.lists.specs.Lists.{range, zeros, nth, elem, Within}
+use lib.ListN.{length, getD, length-map, length-append, length-replicate, List·getD-eq-default}
+use lib.Seq.{sets, sets-eq, ext-getD}
+use Rattle.lists.specs.Lists.{range, zeros, elem, Within}
 use Rattle.lists.proofs.Ranges.{in-range, range-bounds, length-range, mem-within}
 use Rattle.lists.proofs.Counting.{sublist-mem, reject-mem}
 use Rattle.lists.proofs.Cases.{lt-or-ge}
@@ -26,7 +26,6 @@ use Rattle.division.proofs.Round.{waiting-sub, waiting-falls, served-pa
 use Rattle.division.proofs.Invariant.{Sound, Left, left-all, served-distinct, round-suits, left-next}
 use Rattle.division.proofs.Profile.{nth-map-range}
 use Rattle.division.proofs.Places.{nth-next}
-use Rattle.division.proofs.Padding.{nth-perAgent}
 use Rattle.division.proofs.Stored.{length-stored, stored-other, stored-given}
 
 -- the cutters stand in turn from the number of rounds before on
@@ -108,6 +107,12 @@ module _ {N M : ℕ} {G : Instance} (sound : Sound N M G) where
           ∙ stored-given agent some N (r .served) (r .bundles) (a .bundles) (held rest agent) (served-within state) (served-distinct sound (omega arith) state)
           (allSuit-length (suits G) (r .served) (r .bundles) (round-suits sound (omega arith) state)) room (not-waiting-served G (b ∷ agents) items agent m e)
 
+-- the set in each place, where sets stand in the first places and 0 in the others
+pub getD-setOf : (bundles : List (List ℕ)) (k i : ℕ) → getD (map setOf bundles ++ zeros k) i 0 ≡ setOf (getD bundles i [])
+getD-setOf [] k i = getD-zeros k i
+getD-setOf (b ∷ bundles) k zero = refl
+getD-setOf (b ∷ bundles) k (suc i) = getD-setOf bundles k i
+
 -- nothing is handed out
 abbrev pub nothing : Allocation
 nothing = record { bundles = zeros mostAgents; cutters = zeros mostAgents; rounds = 0 }
@@ -116,12 +121,16 @@ module _ {N M : ℕ} {G : Instance} (sound : Sound N M G) (few : N ≤ mostAgent
   abbrev rs : List Round
   rs = rounds G N (range 1 N) (range 1 M)
 
-  -- each agent's bundle as a set
-  abbrev held-sets : List ℕ
-  held-sets = map setOf (map (held rs) (range 1 N))
+  -- each agent's bundle
+  abbrev bundles : List (List ℕ)
+  bundles = map (held rs) (range 1 N)
 
-  length-held-sets : length held-sets ≡ N
-  length-held-sets = length-map (map (held rs) (range 1 N)) setOf ∙ length-map (range 1 N) (held rs) ∙ length-range 1 N
+  length-bundles : length bundles ≡ N
+  length-bundles = length-map (range 1 N) (held rs) ∙ length-range 1 N
+
+  -- the same as a set
+  abbrev held-sets : List ℕ
+  held-sets = map setOf bundles
 
   place : (i : ℕ) → i < mostAgents → getD (allotted rs nothing .bundles) i 0 ≡ getD (perAgent 0 held-sets) i 0
   place i room =
@@ -130,29 +139,26 @@ module _ {N M : ℕ} {G : Instance} (sound : Sound N M G) (few : N ≤ mostAgent
     where
       in-use : i < N → getD (allotted rs nothing .bundles) (i + 1 - 1) 0 ≡ getD (perAgent 0 held-sets) i 0
       in-use lt =
-          let mem = in-range 1 N (i + 1) (omega arith) (omega arith) in
-          let mem′ = in-range 1 (length held-sets) (i + 1) (omega arith) (omega (arith, length-held-sets)) in
-          allotted-held sound N (range 1 N) (range 1 M) (omega (arith, length-range 1 N)) (left-all N M G) nothing (i + 1) (omega arith) (omega arith) mem
-          ∙ sym (sym (nth-next 0 (perAgent 0 held-sets) i) ∙ nth-perAgent 0 0 held-sets mem′ ∙ ap (λ l. nth 0 l (i + 1)) (map-map setOf (held rs) (range 1 N))
-          ∙ nth-map-range (λ agent. setOf (held rs agent)) 0 N mem)
+          let m = in-range 1 N (i + 1) (omega arith) (omega arith) in
+          allotted-held sound N (range 1 N) (range 1 M) (omega (arith, length-range 1 N)) (left-all N M G) nothing (i + 1) (omega arith) (omega arith) m
+          ∙ sym (getD-setOf bundles (mostAgents - length held-sets) i ∙ ap setOf (sym (nth-next [] bundles i) ∙ nth-map-range (held rs) [] N m))
 
       beyond : N ≤ i → getD (allotted rs nothing .bundles) (i + 1 - 1) 0 ≡ getD (perAgent 0 held-sets) i 0
       beyond ge =
           let out = not-mem-elem (i + 1) (range 1 N) (λ m. let b = range-bounds 1 N m in omega arith) in
-          let from : i ≡ length held-sets + (i - N) = omega (arith, length-held-sets) in
           allotted-other sound N (range 1 N) (range 1 M) (omega (arith, length-range 1 N)) (left-all N M G) nothing (i + 1) (omega arith) out
           ∙ getD-zeros mostAgents (i + 1 - 1)
-          ∙ sym (ap (λ k. getD (perAgent 0 held-sets) k 0) from ∙ getD-append-add held-sets (zeros (mostAgents - length held-sets)) (i - N) 0 ∙ getD-zeros (mostAgents - length held-sets) (i - N))
+          ∙ sym (getD-setOf bundles (mostAgents - length held-sets) i ∙ ap setOf (List·getD-eq-default bundles [] (omega (arith, length-bundles))))
 
   pub allotted-bundles : allotted rs nothing .bundles ≡ perAgent 0 held-sets
   allotted-bundles = ext-getD 0 (allotted rs nothing .bundles) (perAgent 0 held-sets) same (λ i lt. place i (omega (arith, length-allotted rs nothing)))
     where
       same : length (allotted rs nothing .bundles) ≡ length (perAgent 0 held-sets)
       same = length-allotted rs nothing
-          ∙ omega (arith, length-held-sets, length-append held-sets (zeros (mostAgents - length held-sets)), length-replicate {A = ℕ} (mostAgents - length held-sets) 0)
+          ∙ omega (arith, length-bundles, length-map bundles setOf, length-append held-sets (zeros (mostAgents - length held-sets)), length-replicate {A = ℕ} (mostAgents - length held-sets) 0)
 
-  pub allotted-turns : allotted rs nothing .cutters ≡ perAgent 0 (map (λ r. r .cutter) rs)
-  allotted-turns =
+  pub allotted-cutters-all : allotted rs nothing .cutters ≡ perAgent 0 (map (λ r. r .cutter) rs)
+  allotted-cutters-all =
       let cutters = map (λ (r : Round). r .cutter) rs in
       allotted-cutters rs nothing
       ∙ sets-eq cutters (zeros mostAgents) 0 (omega (arith, length-map rs (λ r. r .cutter), rounds-few G N (range 1 N) (range 1 M)))

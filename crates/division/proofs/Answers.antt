@@ -1,6 +1,6 @@
 -- Which answer a table gets: a division by the rounds, or a refusal; never a refusal where the counts are within the limits. Assumes nothing.
 use mathlib.Core.Path.{_≡_, refl}
-use mathlib.Core.Bool.{Bool, true, false, cond, and-eq-true-iff}
+use mathlib.Core.Bool.{Bool, true, false, and-eq-true-iff}
 use mathlib.Core.Logic.{_⊎_, inl, inr}
 use mathlib.Core.List.{List}
 use Prim.Native.Nat.{ℕ, _*_, _≤_, _<_}
@@ -19,55 +19,6 @@ use Rattle.division.specs.Division.{Division, refused, divided, shareExc
 abbrev pub divisionByRounds : ℕ → ℕ → List (List ℕ) → Division
 divisionByRounds n m table = divisionOf n m (standardInstance n m table)
 
--- the counts are within the limits
-pub record Within (n m : ℕ) : Type 0 where
-  pub some : 1 ≤ n
-  pub few : n ≤ mostAgents
-  pub some-items : 1 ≤ m
-  pub few-items : m ≤ mostItems
-
-within-bounds : (most n : ℕ) → within most n ≡ true → (1 ≤ n) × (n ≤ most)
-within-bounds most n e = let (lo, hi) = and-eq-true-iff (leb 1 n) (leb n most) .0 e in (leb-true 1 n lo, leb-true n most hi)
-
--- a table is divided by the rounds, and then its counts are within the limits, or refused
-pub answer-cases : (n m : ℕ) (table : List (List ℕ))
-    → ((answer n m table ≡ divided (divisionByRounds n m table)) × Within n m) ⊎ ((number : ℕ) × (answer n m table ≡ refused number))
-unfolding answer
-answer-cases n m table = step (within mostAgents n) refl (within mostItems m) refl (shareExceeds n (profile n m table))
-  where
-    step : (agents-fit : Bool) → within mostAgents n ≡ agents-fit → (items-fit : Bool) → within mostItems m ≡ items-fit → (exceeds : Bool)
-        → let a = cond agents-fit (cond items-fit (cond exceeds (refused 9) (divided (divisionByRounds n m table))) (refused 5)) (refused 4) in
-        ((a ≡ divided (divisionByRounds n m table)) × Within n m) ⊎ ((number : ℕ) × (a ≡ refused number))
-    step false e items-fit f exceeds = inr (4, refl)
-    step true e false f exceeds = inr (5, refl)
-    step true e true f true = inr (9, refl)
-    step true e true f false =
-        let agents = within-bounds mostAgents n e in
-        let items = within-bounds mostItems m f in
-        inl (refl, record { some = agents .0; few = agents .1; some-items = items .0; few-items = items .1 })
-
--- "it cannot fire": n bundles sum to the total and each is at least the least
-pub share-never-exceeds : (n : ℕ) (valuations : List (List ℕ)) → 1 ≤ n → shareExceeds n valuations ≡ false
-unfolding shareExceeds
-share-never-exceeds n valuations some = any-none (λ values. ltb (total values) (n * maximinShare n values)) valuations (λ values m. le-ltb _ _ (shares-le-total n values some))
-
--- refusal 9 is never given
-pub never-share-above-total : (n m : ℕ) (table : List (List ℕ)) → 1 ≤ n → answer n m table ≡ refused 9 → ⊥
-unfolding answer
-never-share-above-total n m table some e =
-    step (within mostAgents n) (within mostItems m) (rw (share-never-exceeds n (profile n m table) some) at e)
-  where
-    step : (agents-fit items-fit : Bool)
-        → cond agents-fit (cond items-fit (divided (divisionByRounds n m table)) (refused 5)) (refused 4) ≡ refused 9 → ⊥
-    step false items-fit q = let z : _≡_ {A = ℕ} 0 1 = cc in omega arith
-    step true false q = let z : _≡_ {A = ℕ} 0 1 = cc in omega arith
-    step true true q = let z : _≡_ {A = ℕ} 0 1 = cc in omega arith
-
-pub answer-within-limits : (n m : ℕ) (table : List (List ℕ)) → 1 ≤ n → n ≤ mostAgents → 1 ≤ m → m ≤ mostItems → answer n m table ≡ divided (divisionByRounds n m table)
-unfolding answer
-answer-within-limits n m table some few some-items few-items =
-    rw (le-leb 1 n some, le-leb n mostAgents few, le-leb 1 m some-items, le-leb m mostItems few-items, share-never-exceeds n (profile n m table) some)
-
 -- whether a count lies in 1 .. most, by the code's two tests
 pub within-low : (most n : ℕ) → n < 1 → within most n ≡ false
 within-low most n low = rw (lt-leb 1 n low)
@@ -77,6 +28,9 @@ within-high most n high = rw (le-leb 1 n (omega arith), lt-leb n most high)
 
 pub within-both : (most n : ℕ) → 1 ≤ n → n ≤ most → within most n ≡ true
 within-both most n some few = rw (le-leb 1 n some, le-leb n most few)
+
+within-bounds : (most n : ℕ) → within most n ≡ true → (1 ≤ n) × (n ≤ most)
+within-bounds most n e = let (lo, hi) = and-eq-true-iff (leb 1 n) (leb n most) .0 e in (leb-true 1 n lo, leb-true n most hi)
 
 -- which answer, by the three tests in turn
 module _ (n m : ℕ) (table : List (List ℕ)) where
@@ -97,3 +51,43 @@ module _ (n m : ℕ) (table : List (List ℕ)) where
       pub answer-divided : shareExceeds n (profile n m table) ≡ false → answer n m table ≡ divided (divisionByRounds n m table)
       unfolding answer
       answer-divided fair = rw (agents-fit, items-fit, fair)
+
+-- the counts are within the limits
+pub record Within (n m : ℕ) : Type 0 where
+  pub some : 1 ≤ n
+  pub few : n ≤ mostAgents
+  pub some-items : 1 ≤ m
+  pub few-items : m ≤ mostItems
+
+-- a table is divided by the rounds, and then its counts are within the limits, or it is refused
+pub answer-cases : (n m : ℕ) (table : List (List ℕ))
+    → ((answer n m table ≡ divided (divisionByRounds n m table)) × Within n m) ⊎ ((number : ℕ) × (answer n m table ≡ refused number))
+answer-cases n m table = step (within mostAgents n) refl (within mostItems m) refl (shareExceeds n (profile n m table)) refl
+  where
+    step : (b : Bool) → within mostAgents n ≡ b → (c : Bool) → within mostItems m ≡ c → (d : Bool) → shareExceeds n (profile n m table) ≡ d
+        → ((answer n m table ≡ divided (divisionByRounds n m table)) × Within n m) ⊎ ((number : ℕ) × (answer n m table ≡ refused number))
+    step false e c f d g = inr (4, answer-agents-outside n m table e)
+    step true e false f d g = inr (5, answer-items-outside n m table e f)
+    step true e true f true g = inr (9, answer-share-exceeds n m table e f g)
+    step true e true f false g =
+        let agents = within-bounds mostAgents n e in
+        let items = within-bounds mostItems m f in
+        inl (answer-divided n m table e f g, record { some = agents .0; few = agents .1; some-items = items .0; few-items = items .1 })
+
+-- "it cannot fire": n bundles sum to the total and each is at least the least
+pub share-never-exceeds : (n : ℕ) (valuations : List (List ℕ)) → 1 ≤ n → shareExceeds n valuations ≡ false
+unfolding shareExceeds
+share-never-exceeds n valuations some = any-none (λ values. ltb (total values) (n * maximinShare n values)) valuations (λ values m. le-ltb _ _ (shares-le-total n values some))
+
+-- refusal 9 is never given
+pub never-share-above-total : (n m : ℕ) (table : List (List ℕ)) → 1 ≤ n → answer n m table ≡ refused 9 → ⊥
+never-share-above-total n m table some nine = step (within mostAgents n) refl (within mostItems m) refl
+  where
+    step : (b : Bool) → within mostAgents n ≡ b → (c : Bool) → within mostItems m ≡ c → ⊥
+    step false e c f = let four = answer-agents-outside n m table e in let z : _≡_ {A = ℕ} 0 1 = cc in omega arith
+    step true e false f = let five = answer-items-outside n m table e f in let z : _≡_ {A = ℕ} 0 1 = cc in omega arith
+    step true e true f = let is = answer-divided n m table e f (share-never-exceeds n (profile n m table) some) in let z : _≡_ {A = ℕ} 0 1 = cc in omega arith
+
+pub answer-within-limits : (n m : ℕ) (table : List (List ℕ)) → 1 ≤ n → n ≤ mostAgents → 1 ≤ m → m ≤ mostItems → answer n m table ≡ divided (divisionByRounds n m table)
+answer-within-limits n m table some few some-items few-items =
+    answer-divided n m table (within-both mostAgents n some few) (within-both mostItems m some-items few-items) (share-never-exceeds n (profile n m table) some)

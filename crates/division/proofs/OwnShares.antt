@@ -13,9 +13,9 @@ use Rattle.cut.specs.Share.{maximinShare, maximinPartition}
 use Rattle.division.specs.Valuations.{valuation, allValues, profile, shareOf}
 use Rattle.division.specs.Division.{shareExceeds}
 use Rattle.division.specs.Outcome.{perAgent, cutOf, blankCut}
-use Rattle.division.specs.internal.Shares.{sharesFor, sharesOf}
+use Rattle.division.specs.internal.Shares.{sharesFor, ownCuts}
 use Rattle.division.specs.declared.Cut.{Cut}
-use Rattle.division.specs.declared.shares.Shares.{Shares}
+use Rattle.division.specs.declared.shares.OwnCuts.{OwnCuts}
 use Rattle.division.proofs.Profile.{nth-shares}
 use Rattle.division.proofs.Padding.{nth-perAgent}
 
@@ -29,10 +29,10 @@ module _ (n m : ℕ) (table : List (List ℕ)) where
   exceedsAt i = ltb (total (allValues m (valuation table i))) (n * shareOf n m table i)
 
   -- the shares and the cuts of the agents 1 .. n, each in its place
-  abbrev pub placed : Shares
+  abbrev pub placed : OwnCuts
   placed = record { shares = perAgent 0 (map (shareOf n m table) (range 1 n)); cuts = perAgent blankCut (map cutAt (range 1 n)) }
 
-  pub placed-all : placed ≡ sharesOf n m table
+  pub placed-all : placed ≡ ownCuts n m table
   unfolding profile
   placed-all =
       let row : ℕ → List ℕ = λ i. allValues m (valuation table i) in

@@ -10,12 +10,12 @@ use lib.Dec.{eqb, leb}
 use lib.ListN.{length}
 use Rattle.lists.specs.Lists.{range, nth, elem}
 use Rattle.lists.specs.Sums.{total}
-use Rattle.lists.proofs.Counting.{sublist-mem, reject-mem}
+use Rattle.lists.proofs.Counting.{sublist-mem}
 use Rattle.lists.proofs.Totals.{map-cong}
 use Rattle.sheet.specs.Valuations.{valueOf}
 use Rattle.cut.specs.Share.{maximinPartition}
-use Rattle.matching.specs.Matching.{without, servedAgents, wanted, freeBundles, matching}
-use Rattle.matching.proofs.Congruence.{Agree, waitingSet-cong, freeBundles-cong, matching-cong}
+use Rattle.matching.specs.Matching.{servedAgents}
+use Rattle.matching.proofs.Congruence.{Agree}
 use Rattle.division.specs.Ratio.{Terms, termsFor}
 use Rattle.division.specs.Valuations.{valuation}
 use Rattle.division.specs.Round.{itemsIn, bundle, cutterOf, Round, Instance, suits, round, rounds}
@@ -25,7 +25,8 @@ use Rattle.division.specs.internal.Settling.{instanceFrom}
 use Rattle.division.proofs.Profile.{valueOf-profile, nth-shares}
 use Rattle.division.proofs.OwnShares.{nth-sharesFor}
 use Rattle.division.proofs.Bundles.{itemsIn-sublist}
-use Rattle.division.proofs.Round.{cutterOf-mem, cut, fits, waits, free, chosen, waiting-sub, left-sub}
+use Rattle.division.proofs.SettledBy.{waits, chooses, waits-same, chooses-same}
+use Rattle.division.proofs.Round.{cutterOf-mem, cut, fits, waiting-sub, left-sub}
 
 -- two instances that say the same of the agents and the items
 pub record Alike (G H : Instance) (agents items : List ℕ) : Type 0 where
@@ -57,23 +58,6 @@ module _ {G H : Instance} where
       agree : Agree (fits G agents items) (fits H agents items) agents (range 1 (length agents))
       agree agent m c mc = suits-same agent m (itemsIn-sublist (eqb c) items (cut G agents items)) ∙ ap (λ l. suits H agent (bundle items l c)) cut-same
 
-      waits-same : waits G agents items ≡ waits H agents items
-      waits-same =
-          waitingSet-cong (fits G agents items) (fits H agents items) (without (cutterOf agents) agents) (range 1 (length agents))
-          (λ agent m. agree agent (reject-mem (eqb (cutterOf agents)) agents m .0))
-
-      free-same : free G agents items ≡ free H agents items
-      unfolding round
-      free-same =
-          ap (λ w. freeBundles (fits G agents items) w (range 1 (length agents))) waits-same
-          ∙ freeBundles-cong (fits G agents items) (fits H agents items) (waits H agents items) (range 1 (length agents)) (λ agent m. agree agent (sublist-mem (waiting-sub H agents items) m))
-
-      chosen-same : chosen G agents items ≡ chosen H agents items
-      chosen-same =
-          ap₂ (λ w f. matching (fits G agents items) (servedAgents w agents) f) waits-same free-same
-          ∙ matching-cong (fits G agents items) (fits H agents items) (servedAgents (waits H agents items) agents) (free H agents items)
-          (λ agent m c mc. agree agent (reject-mem (λ a. elem a (waits H agents items)) agents m .0) c (reject-mem (wanted (fits H agents items) (waits H agents items)) (range 1 (length agents)) mc .0))
-
       -- a round, from the cutter's partition, the agents that wait and the bundles chosen
       settling : List ℕ → List ℕ → List ℕ → Round
       settling l waiting hands =
@@ -88,8 +72,10 @@ module _ {G H : Instance} where
       pub round-same : round G agents items ≡ round H agents items
       unfolding round settling
       round-same =
-          ap (λ l. settling l (waits G agents items) (chosen G agents items)) cut-same
-          ∙ ap₂ (λ w hands. settling (cut H agents items) w hands) waits-same chosen-same
+          let s = fits G agents items in
+          let t = fits H agents items in
+          ap (λ l. settling l (waits s agents) (chooses s agents)) cut-same
+          ∙ ap₂ (λ w hands. settling (cut H agents items) w hands) (waits-same s t agents agree) (chooses-same s t agents agree)
 
   pub rounds-same : (most : ℕ) (agents items : List ℕ) → Alike G H agents items → rounds G most agents items ≡ rounds H most agents items
   unfolding rounds

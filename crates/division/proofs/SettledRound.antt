@@ -10,8 +10,8 @@ use lib.Dec.{eqb, leb}
 use lib.ListN.{length, length-map}
 use Rattle.lists.specs.Lists.{range, zeros, nth, elem, Within}
 use Rattle.lists.specs.Sums.{total}
-use Rattle.lists.proofs.Ranges.{within-mem, mem-within}
-use Rattle.lists.proofs.Counting.{sublist-mem, reject-mem, reject-sublist, length-sublist, count-sublist}
+use Rattle.lists.proofs.Ranges.{within-mem}
+use Rattle.lists.proofs.Counting.{sublist-mem, count-sublist}
 use Rattle.lists.proofs.Distinct.{submultiset-distinct}
 use Rattle.lists.proofs.Totals.{map-cong}
 use Rattle.sheet.specs.Limits.{mostAgents, mostItems}
@@ -23,9 +23,9 @@ use Rattle.sheet.proofs.Ranges.{range-sublist, setOf-below}
 use Rattle.cut.specs.Share.{maximinPartition}
 use Rattle.cut.specs.Outcome.{padded}
 use Rattle.cut.proofs.Laws.{maximinPartition-within}
-use Rattle.matching.specs.Matching.{servedAgents, wanted, freeBundles}
+use Rattle.matching.specs.Matching.{servedAgents}
 use Rattle.matching.proofs.Congruence.{Agree}
-use Rattle.matching.proofs.Chosen.{chosen-distinct, chosen-free}
+use Rattle.matching.proofs.Chosen.{chosen-distinct}
 use Rattle.division.specs.Valuations.{valuation, value}
 use Rattle.division.specs.Round.{itemsIn, bundle, cutterOf, Instance, cutBy, round}
 use Rattle.division.specs.internal.Numbers.{numbered, fitsOf}
@@ -35,8 +35,7 @@ use Rattle.division.specs.internal.Settling.{Remaining, Parts, instanceF
 use Rattle.division.specs.declared.settling.Settled.{Settled}
 use Rattle.division.proofs.Bundles.{itemsIn-sublist}
 use Rattle.division.proofs.BundleSets.{itemsIn-append, setOf-handed}
-use Rattle.lists.proofs.Passing.{within-sublist}
-use Rattle.division.proofs.SettledBy.{chooses, waits-same, chooses-same}
+use Rattle.division.proofs.SettledBy.{serves, frees, chooses, waits-same, chooses-same, waits-within, serves-within, serves-few, chooses-within}
 use Rattle.division.proofs.Profile.{nth-map-range}
 use Rattle.division.proofs.Round as parts
 
@@ -104,34 +103,29 @@ module _ {agents : List ℕ} {set : ℕ} (left : Remaining agents set) (some : 1
         setOf-items set (left .small-set),
       )
 
-  in-bundles : (c : ℕ) → Mem c (range 1 n) → Mem c (range 1 mostAgents)
-  in-bundles c m = sublist-mem (range-sublist 1 n mostAgents (left .few)) m
-
   fits-agree : Agree fits (parts.fits G agents (items set)) agents (range 1 n)
-  fits-agree agent ma c mc = fits-suits agent (within-mem mostAgents agents (left .within) agent ma) c (in-bundles c mc)
+  fits-agree agent ma c mc =
+      fits-suits agent (within-mem mostAgents agents (left .within) agent ma) c (sublist-mem (range-sublist 1 n mostAgents (left .few)) mc)
 
-  -- their sets
+  -- the sets of the bundles handed out
   handed-same : map (nth 0 cutSets) (chooses fits agents) ≡ map setOf (map (bundle (items set) l) (parts.chosen G agents (items set)))
   handed-same =
       let s = parts.fits G agents (items set) in
-      let waiting = parts.waits G agents (items set) in
-      let free = freeBundles s waiting (range 1 n) in
+      let chosen = parts.chosen G agents (items set) in
       ap (map (nth 0 cutSets)) (chooses-same fits s agents fits-agree)
-      ∙ map-cutSets (parts.chosen G agents (items set))
-      (λ c m. in-bundles c (reject-mem (wanted s waiting) (range 1 n) (chosen-free s (servedAgents waiting agents) free c m) .0))
-      ∙ sym (map-map setOf (bundle (items set) l) (parts.chosen G agents (items set)))
+      ∙ map-cutSets chosen (within-mem mostAgents chosen (chooses-within left s))
+      ∙ sym (map-map setOf (bundle (items set) l) chosen)
 
   -- what is left of the set
   left-same : let chosen = parts.chosen G agents (items set) in
       set - total (map setOf (map (bundle (items set) l) chosen)) ≡ setOf (itemsIn (λ c. not (elem c chosen)) (items set) l)
   left-same =
       let s = parts.fits G agents (items set) in
-      let waiting = parts.waits G agents (items set) in
       let chosen = parts.chosen G agents (items set) in
       omega (
         arith,
         ap total (map-map setOf (bundle (items set) l) chosen),
-        setOf-handed chosen (items set) l (chosen-distinct s (servedAgents waiting agents) (freeBundles s waiting (range 1 n))) entry-each,
+        setOf-handed chosen (items set) l (chosen-distinct s (serves s agents) (frees s agents)) entry-each,
         setOf-items set (left .small-set),
       )
 
@@ -153,13 +147,13 @@ module _ {agents : List ℕ} {set : ℕ} (left : Remaining agents set) (some : 1
 
   -- the agents that wait may go on with the items left
   pub remaining-next : Remaining (round G agents (items set) .waiting) (setOf (round G agents (items set) .left))
+  unfolding round
   remaining-next =
-      let waiting = round G agents (items set) .waiting in
-      let sub = parts.waiting-sub G agents (items set) in
+      let waiting = parts.waits G agents (items set) in
       record {
         few = omega (arith, parts.waiting-falls G agents (items set) some, left .few);
-        within = mem-within mostAgents waiting (λ agent m. within-mem mostAgents agents (left .within) agent (sublist-mem sub m));
-        once = submultiset-distinct waiting agents (count-sublist sub) (left .once);
+        within = waits-within left (parts.fits G agents (items set));
+        once = submultiset-distinct waiting agents (count-sublist (parts.waiting-sub G agents (items set))) (left .once);
         small-set = setOf-below mostItems items-left-sub;
       }
 
@@ -169,10 +163,9 @@ module _ {agents : List ℕ} {set : ℕ} (left : Remaining agents set) (some : 1
 
   -- the agents served are agents that a table has
   pub served-within : Within mostAgents (round G agents (items set) .served)
-  served-within =
-      let served = servedAgents (round G agents (items set) .waiting) agents in
-      rw (parts.served-parts G agents (items set)) (within-sublist mostAgents served agents (reject-sublist (λ a. elem a (round G agents (items set) .waiting)) agents) (left .within))
+  unfolding round
+  served-within = serves-within left (parts.fits G agents (items set))
 
   pub served-few : length (round G agents (items set) .served) ≤ mostAgents
-  served-few =
-      rw (parts.served-parts G agents (items set)) (omega (arith, length-sublist (reject-sublist (λ a. elem a (round G agents (items set) .waiting)) agents), left .few))
+  unfolding round
+  served-few = serves-few left (parts.fits G agents (items set))

@@ -17,13 +17,13 @@ use Rattle.division.specs.declared.Answer.{Answer}
 use Rattle.division.specs.declared.Answer.the-variants.{Refused, Divided}
 use Rattle.division.specs.declared.Outcome.{Outcome}
 
-abbrev pub gives : Answer → Bool
-gives (Refused number) = false
-gives (Divided grade) = true
+abbrev pub isDivided : Answer → Bool
+isDivided (Refused number) = false
+isDivided (Divided grade) = true
 
--- whether the answer is a division
+-- whether the code's answer is a division
 abbrev pub isDivision : Outcome → Bool
-isDivision r = gives (r .answer)
+isDivision r = isDivided (r .answer)
 
 -- the bundles (piles) in the answer for n agents: "A division has one pile for each of these yards", and "a refusal has no pile"
 abbrev pub bundlesIn : ℕ → Outcome → List (List ℕ)

@@ -8,17 +8,15 @@ ghost use Rattle.division.specs.Valuations.{profile};
 ghost use Rattle.division.specs.Grade.{envyFree, proportional, maximinFair, grade};
 ghost use Rattle.division.specs.internal.Shares.{InUse};
 ghost use Rattle.division.specs.internal.Grading.{OfItems, enviesNone};
+use crate::sets::Sets;
 use crate::shares::all_items;
+use crate::suiting::Shares;
 use crate::value::value_of;
 use sheet::Row;
-use sheet::Sheet;
 use sheet::Table;
 
-// Each agent's bundle as a set of items.
-pub type Bundles = [u16; Sheet::YARDS];
-
 // Whether an agent, by its valuation, counts none of the bundles as worth more than its own.
-fn envies_none(valuation: Row, own: u64, yards: usize, bundles: Bundles) -> bool
+fn envies_none(valuation: Row, own: u64, yards: usize, bundles: Sets) -> bool
     requires { ⌜ yards ≤ mostAgents ⌝ }
     ensures { λ r. ⌜ r ≡ enviesNone valuation own yards bundles ⌝ }
 {
@@ -34,7 +32,7 @@ fn envies_none(valuation: Row, own: u64, yards: usize, bundles: Bundles) -> bool
 }
 
 // Grade 1: whether no agent counts another's bundle as worth more than its own.
-fn is_envy_free(table: Table, yards: usize, bundles: Bundles) -> bool
+fn is_envy_free(table: Table, yards: usize, bundles: Sets) -> bool
     requires { ⌜ yards ≤ mostAgents ⌝ }
     ensures { λ r. ⌜ r ≡ envyFree yards table [] (map items bundles) ⌝ }
 {
@@ -53,7 +51,7 @@ fn is_envy_free(table: Table, yards: usize, bundles: Bundles) -> bool
 }
 
 // Grade 2: whether each bundle is worth at least the agent's total divided by the number of agents, rounded down.
-fn is_proportional(table: Table, yards: usize, pieces: usize, bundles: Bundles) -> bool
+fn is_proportional(table: Table, yards: usize, pieces: usize, bundles: Sets) -> bool
     requires { ⌜ InUse yards pieces × OfItems pieces bundles ⌝ }
     ensures { λ r. ⌜ r ≡ proportional yards (profile yards pieces table) [] (map items bundles) ⌝ }
 {
@@ -72,12 +70,7 @@ fn is_proportional(table: Table, yards: usize, pieces: usize, bundles: Bundles) 
 }
 
 // Grade 3: whether each bundle reaches its agent's whole maximin share.
-fn is_maximin_fair(
-    table: Table,
-    yards: usize,
-    shares: [u64; Sheet::YARDS],
-    bundles: Bundles,
-) -> bool
+fn is_maximin_fair(table: Table, yards: usize, shares: Shares, bundles: Sets) -> bool
     requires { ⌜ yards ≤ mostAgents ⌝ }
     ensures { λ r. ⌜ r ≡ maximinFair yards table shares (map items bundles) ⌝ }
 {
@@ -98,8 +91,8 @@ pub(crate) fn grade_of(
     table: Table,
     yards: usize,
     pieces: usize,
-    shares: [u64; Sheet::YARDS],
-    bundles: Bundles,
+    shares: Shares,
+    bundles: Sets,
 ) -> u8
     requires { ⌜ InUse yards pieces × OfItems pieces bundles ⌝ }
     ensures { λ r. ⌜ r ≡ grade yards (profile yards pieces table) shares (map items bundles) ⌝ }

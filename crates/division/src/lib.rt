@@ -5,13 +5,13 @@ ghost use Rattle.sheet.specs.Limits.{mostAgents};
 ghost use Rattle.division.specs.Division.{refused, divided, standardInstance, divisionOf, answer};
 ghost use Rattle.division.specs.Outcome.{outcome};
 ghost use Rattle.division.specs.Promise.{Promised};
-ghost use Rattle.division.specs.internal.Shares.{InUse, sharesOf};
+ghost use Rattle.division.specs.internal.Shares.{InUse, ownCuts};
 ghost use Rattle.division.specs.internal.Suiting.{SmallShares};
 use crate::dividing::Allocation;
 use crate::dividing::divide_left;
 use crate::grading::grade_of;
 use crate::pairs::ratio_for;
-use crate::shares::Shares;
+use crate::shares::OwnCuts;
 use crate::shares::all_items;
 use crate::shares::share_each;
 use crate::shares::share_exceeds;
@@ -79,8 +79,8 @@ fn all_agents() -> [u8; Sheet::YARDS]
 }
 
 // The division of a table that is not refused, from the shares and the cuts.
-fn divide_accepted(table: Table, yards: usize, pieces: usize, own: Shares) -> Outcome
-    requires { ⌜ InUse yards pieces × (own ≡ sharesOf yards pieces table) × SmallShares (own .shares) ⌝ }
+fn divide_accepted(table: Table, yards: usize, pieces: usize, own: OwnCuts) -> Outcome
+    requires { ⌜ InUse yards pieces × (own ≡ ownCuts yards pieces table) × SmallShares (own .shares) ⌝ }
     ensures { λ r. ⌜ r ≡ outcome (divided (divisionOf yards pieces (standardInstance yards pieces table))) ⌝ }
 {
     let shares = own.shares;
@@ -91,8 +91,8 @@ fn divide_accepted(table: Table, yards: usize, pieces: usize, own: Shares) -> Ou
     let agents = all_agents();
     let set = all_items(pieces);
     let nothing = Allocation {
-        bundles: [0; Sheet::YARDS],
-        cutters: [0; Sheet::YARDS],
+        bundles: [0u16; Sheet::YARDS],
+        cutters: [0u8; Sheet::YARDS],
         rounds: 0,
     };
     let allocation = divide_left(

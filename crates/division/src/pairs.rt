@@ -12,26 +12,20 @@ pub struct Ratio {
     pub bottom: u64,
 }
 
-// The table: the pair for one agent, for two, and so on.
-const PAIRS: [Ratio; Sheet::YARDS] = [
-    Ratio { top: 2, bottom: 2 },
-    Ratio { top: 2, bottom: 2 },
-    Ratio { top: 6, bottom: 8 },
-    Ratio { top: 6, bottom: 8 },
-    Ratio {
-        top: 10,
-        bottom: 14,
-    },
-    Ratio {
-        top: 10,
-        bottom: 14,
-    },
-];
+// The row `top` of the table, for one agent and more.
+const TOPS: [u64; Sheet::YARDS] = [2, 2, 6, 6, 10, 10];
+
+// The row `bottom`.
+const BOTTOMS: [u64; Sheet::YARDS] = [2, 2, 8, 8, 14, 14];
 
 // The pair for a number of agents.
 pub(crate) fn ratio_for(agents: usize) -> Ratio
     requires { ⌜ (1 ≤ agents) × (agents ≤ mostAgents) ⌝ }
     ensures { λ r. ⌜ r ≡ pair (termsFor agents) ⌝ }
 {
-    PAIRS[agents - 1]
+    let column = agents - 1;
+    Ratio {
+        top: TOPS[column],
+        bottom: BOTTOMS[column],
+    }
 }

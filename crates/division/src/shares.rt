@@ -8,8 +8,9 @@ ghost use Rattle.sheet.specs.Valuations.{valuesOf};
 ghost use Rattle.division.specs.Valuations.{profile};
 ghost use Rattle.division.specs.Division.{shareExceeds};
 ghost use Rattle.division.specs.internal.Suiting.{greatestValue, SmallShares};
-ghost use Rattle.division.specs.internal.Shares.{ownCut, sharesOf, InUse, sharesFor};
+ghost use Rattle.division.specs.internal.Shares.{ownCut, ownCuts, InUse, sharesFor};
 use crate::Cut;
+use crate::suiting::Shares;
 use crate::value::value_of;
 use sheet::Row;
 use sheet::Sheet;
@@ -22,8 +23,8 @@ pub struct OwnCut {
 }
 
 // The shares and the cuts of all agents.
-pub struct Shares {
-    pub shares: [u64; Sheet::YARDS],
+pub struct OwnCuts {
+    pub shares: Shares,
     pub cuts: [Cut; Sheet::YARDS],
 }
 
@@ -57,9 +58,9 @@ pub(crate) fn own_cut(valuation: Row, set: u16, bundles: usize) -> OwnCut
 }
 
 // The share and the cut of each agent: over all items, and in as many bundles as there are agents.
-pub(crate) fn share_each(table: Table, yards: usize, pieces: usize) -> Shares
+pub(crate) fn share_each(table: Table, yards: usize, pieces: usize) -> OwnCuts
     requires { ⌜ InUse yards pieces ⌝ }
-    ensures { λ r. ⌜ (r ≡ sharesOf yards pieces table) × SmallShares (r .shares) ⌝ }
+    ensures { λ r. ⌜ (r ≡ ownCuts yards pieces table) × SmallShares (r .shares) ⌝ }
 {
     let set = all_items(pieces);
     let blank = Cut {
@@ -76,16 +77,11 @@ pub(crate) fn share_each(table: Table, yards: usize, pieces: usize) -> Shares
         cuts[i] = cut;
         i += 1;
     }
-    Shares { shares, cuts }
+    OwnCuts { shares, cuts }
 }
 
 // The makers' check, refusal 9: whether an agent's share times the number of agents exceeds the sum of its marks.
-pub(crate) fn share_exceeds(
-    table: Table,
-    yards: usize,
-    pieces: usize,
-    shares: [u64; Sheet::YARDS],
-) -> bool
+pub(crate) fn share_exceeds(table: Table, yards: usize, pieces: usize, shares: Shares) -> bool
     requires { ⌜ InUse yards pieces × (shares ≡ sharesFor yards pieces table) ⌝ }
     ensures { λ r. ⌜ r ≡ shareExceeds yards (profile yards pieces table) ⌝ }
 {

@@ -14,11 +14,12 @@ use Rattle.division.specs.Ratio.{termsFor}
 use Rattle.division.specs.internal.Pairs.{pair}
 use Rattle.division.specs.internal.Shares.{sharesFor}
 use Rattle.division.specs.internal.Settling.{instanceFrom}
+use Rattle.division.specs.internal.Grading.{OfItems}
 use Rattle.division.specs.internal.Allocation.{allottedAll}
 use Rattle.division.specs.declared.pairs.Ratio.{Ratio}
 use Rattle.division.specs.declared.dividing.Allocation.{Allocation}
 use Rattle.division.proofs.AllRounds.{nothing}
-use Rattle.division.proofs.Accepted.{take-range, ready-all, known-all, bundleSets, turns, of-items, allotted-accepted, outcome-accepted}
+use Rattle.division.proofs.Accepted.{take-range, ready-all, known-all, placedSets, placedCutters, of-items, allotted-accepted, outcome-accepted}
 use Rattle.division.proofs.divide_accepted.Statement.{statement}
 use Rattle.division.proofs.divide_accepted.Tie as tie
 
@@ -29,8 +30,8 @@ agents-all c = let n = c .before .before .before .before .before .before .args .
 -- what the rounds hand out
 handed : (c : tie.After-divide-left)
     → let s = c .before .before .before .before .before .before .before .before .before in
-    (c .divide-left .result .bundles ≡ bundleSets (s .args .yards) (s .args .pieces) (s .args .table) (s .pre .0))
-    × (c .divide-left .result .cutters ≡ turns (s .args .yards) (s .args .pieces) (s .args .table) (s .pre .0))
+    (c .divide-left .result .bundles ≡ placedSets (s .args .yards) (s .args .pieces) (s .args .table) (s .pre .0))
+    × (c .divide-left .result .cutters ≡ placedCutters (s .args .yards) (s .args .pieces) (s .args .table) (s .pre .0))
 handed c =
     let s = c .before .before .before .before .before .before .before .before .before in
     let a = s .args in
@@ -44,6 +45,11 @@ handed c =
     ∙ ap₂ (run (pair (termsFor (a .yards))) (sharesFor (a .yards) (a .pieces) (a .table))) (agents-all (c .before .before .before)) (all .ensures .1) in
     let accepted = allotted-accepted (a .yards) (a .pieces) (a .table) (s .pre .0) in
     (ap (λ r. r .bundles) out ∙ accepted .0, ap (λ r. r .cutters) out ∙ accepted .1)
+
+handed-items : (c : tie.After-divide-left) → OfItems (c .before .before .before .before .before .before .before .before .before .args .pieces) (c .divide-left .result .bundles)
+handed-items c =
+    let s = c .before .before .before .before .before .before .before .before .before in
+    rw (handed c .0) (of-items (s .args .yards) (s .args .pieces) (s .args .table) (s .pre .0))
 
 array-copy-out-first : tie.Need-array-copy-out-first
 array-copy-out-first c = search needs
@@ -72,9 +78,7 @@ divide-left-requires c κs =
     rw (c .before .before .before .ratio-for .ensures, agents-all (c .before .before), c .before .all-items .ensures .1) (ready, (known .0, rw (s .pre .1) (known .1)))
 
 grade-of-requires : tie.Need-grade-of-requires
-grade-of-requires c κs =
-    let s = c .before .before .before .before .before .before .before .before .before .before .before in
-    (s .pre .0, rw (handed (c .before .before) .0) (of-items (s .args .yards) (s .args .pieces) (s .args .table) (s .pre .0)))
+grade-of-requires c κs = (c .before .before .before .before .before .before .before .before .before .before .before .pre .0, handed-items (c .before .before))
 
 returns : tie.Need-returns
 returns c =

@@ -6,7 +6,7 @@ use Rattle.cut.specs.Share.{maximinShare, maximinPartition}
 use Rattle.division.specs.Valuations.{profile}
 use Rattle.division.specs.Outcome.{perAgent, cutOf, blankCut}
 use Rattle.division.specs.declared.shares.OwnCut.{OwnCut}
-use Rattle.division.specs.declared.shares.Shares.{Shares}
+use Rattle.division.specs.declared.shares.OwnCuts.{OwnCuts}
 
 -- the counts are within the limits
 pub record InUse (yards pieces : ℕ) : Type 0 where
@@ -23,5 +23,5 @@ abbrev pub sharesFor : ℕ → ℕ → List (List ℕ) → List ℕ
 sharesFor n m table = perAgent 0 (map (maximinShare n) (profile n m table))
 
 -- the shares and the cuts in use, a place for each agent
-abbrev pub sharesOf : ℕ → ℕ → List (List ℕ) → Shares
-sharesOf n m table = record { shares = sharesFor n m table; cuts = perAgent blankCut (map cutOf (map (maximinPartition n) (profile n m table))) }
+abbrev pub ownCuts : ℕ → ℕ → List (List ℕ) → OwnCuts
+ownCuts n m table = record { shares = sharesFor n m table; cuts = perAgent blankCut (map cutOf (map (maximinPartition n) (profile n m table))) }

@@ -10,7 +10,7 @@ use Rattle.division.specs.declared.Cut.{Cut}
 use Rattle.division.proofs.OwnShares.{cutAt, placed-all}
 use Rattle.sheet.specs.Valuations.{valueOf, valuesOf}
 use Rattle.division.specs.internal.Shares.{ownCut}
-use Rattle.division.specs.declared.shares.Shares.{Shares}
+use Rattle.division.specs.declared.shares.OwnCuts.{OwnCuts}
 use Rattle.lists.proofs.Zeros.{getD-zeros}
 use Rattle.division.specs.internal.Suiting.{greatestValue, SmallShares}
 use Rattle.division.proofs.Marks.{store-small}
@@ -99,7 +99,7 @@ returns c =
     let e : l .i ≡ a .yards = omega arith in
     (ap₂ made (rw e at (l .inv .1)) (rw e at (l .inv .2)) ∙ placed-all (a .yards) (a .pieces) (a .t1), l .inv .3)
   where
-    made : List ℕ → List Cut → Shares
+    made : List ℕ → List Cut → OwnCuts
     made shares cuts = record { shares = shares; cuts = cuts }
 
 pub share-each-spec : {M : Type 1} → statement M
