@@ -31,12 +31,13 @@ mod division {
 
     #[link(name = "division_c", kind = "static")]
     extern "C" {
-        /// 72 marks row by row and the counts; writes each yard's pile as a set of pieces and the
-        /// cutters from 1. Answers the grade, or 16 and the refusal's number.
+        /// 72 marks row by row and the counts; writes the grade, each yard's pile as a set of pieces
+        /// and the cutters from 1. Answers 0 or the refusal's number.
         fn divide_table(
             marks: *const u16,
             yards: u8,
             pieces: u8,
+            grade: *mut u8,
             piles: *mut u16,
             cutters: *mut u8,
         ) -> u8;
@@ -47,17 +48,18 @@ mod division {
         let mut division =
             Division { grade: 0, bundles: [0; MOST_AGENTS], cutters: [0; MOST_AGENTS] };
         let (yards, pieces) = (table.len() as u8, table[0].len() as u8);
-        // SAFETY: the pointers are those of 72 marks in a row, six sets and six places.
-        division.grade = unsafe {
+        // SAFETY: the pointers are those of 72 marks in a row, one grade, six sets and six places.
+        let refusal = unsafe {
             divide_table(
                 table.as_flattened().as_ptr(),
                 yards,
                 pieces,
+                &mut division.grade,
                 division.bundles.as_mut_ptr(),
                 division.cutters.as_mut_ptr(),
             )
         };
-        assert!(division.grade < 16, "the library refuses {table:?}");
+        assert_eq!(refusal, 0, "the library refuses {table:?}");
         division
     }
 }

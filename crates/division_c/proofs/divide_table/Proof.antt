@@ -1,35 +1,37 @@
+-- `division_c::divide_table` meets its contract, by what `division::divide` ensures and the case of its answer. Assumes nothing.
+use mathlib.Core.Path.{sym, ap, _∙_}
 use borrow.Author.Needs.{needs}
+use Rattle.division.specs.Division.{answer}
+use Rattle.division_c.proofs.Lent.{lent-refused, lent-divided}
 use Rattle.division_c.proofs.divide_table.Statement.{statement}
 use Rattle.division_c.proofs.divide_table.Tie as tie
-use Rattle.division_c.proofs.divide_table.Reads as reads
-use Rattle.division_c.proofs.divide_table.Lts as lts
-use Rattle.division.proofs.divide.Reads as divide-reads
 
--- src/lib.rt:23:9
 divide-requires : tie.Need-divide-requires
 divide-requires c κs = search needs
 
--- src/lib.rt:26:25
 enum-known-answer : tie.Need-enum-known-answer
 enum-known-answer c = search needs
 
--- src/lib.rt:26:36
-add-result : tie.Need-add-result
-add-result c = ?
-
--- src/lib.rt:27:25
 enum-known-answer-2 : tie.Need-enum-known-answer-2
 enum-known-answer-2 c = search needs
 
--- src/lib.rt:11:1
 returns : tie.Need-returns
-returns c = ?
+returns c =
+    let s = c .before .before .before in
+    let a = s .before .before .args in
+    let told = lent-refused (a .grade .now) (a .bundles .now) (a .cutters .now) (answer (a .yards) (a .pieces) (a .table .now)) (c .before .answer .given .0 .0)
+    (sym (ap (λ o. o .answer) (s .divide .ensures .0)) ∙ c .before .answer .given .1) in
+    (told .0, (told .1, (told .2, told .3)))
 
--- src/lib.rt:11:1
 returns-2 : tie.Need-returns-2
-returns-2 c = ?
+returns-2 c =
+    let s = c .before .before .before .before .before in
+    let a = s .before .before .args in
+    let at-answer = c .before .before .before in
+    let told = lent-divided (a .grade .now) (a .bundles .now) (a .cutters .now) (answer (a .yards) (a .pieces) (a .table .now)) (at-answer .answer2 .given .0 .0)
+    (sym (ap (λ o. o .answer) (s .divide .ensures .0)) ∙ at-answer .answer2 .given .1) in
+    (told .0, (told .1, (ap (λ o. o .bundles) (s .divide .ensures .0) ∙ told .2, ap (λ o. o .cutters) (s .divide .ensures .0) ∙ told .3)))
 
 pub divide-table-spec : {M : Type 1} → statement M
 divide-table-spec =
-    tie.close
-    (tie.spec divide-requires enum-known-answer add-result enum-known-answer-2 returns returns-2)
+    tie.close (tie.spec divide-requires enum-known-answer enum-known-answer-2 returns returns-2)
