@@ -26,7 +26,7 @@ mod sets;
 mod settling;
 mod shares;
 mod suiting;
-mod value;
+pub mod value;
 
 // The number of the reason why the table is refused, or the grade of its division.
 pub enum Answer {

@@ -14,7 +14,7 @@ fn wide(mark: u16) -> u64
 }
 
 // The value of the items of a set: the sum of their marks.
-pub(crate) fn value_of(valuation: Row, set: u16) -> u64
+pub fn value_of(valuation: Row, set: u16) -> u64
     ensures { λ r. ⌜ (r ≡ value valuation (items set)) × (r ≤ 2 ^ 36) ⌝ }
 {
     let mut sum: u64 = 0;

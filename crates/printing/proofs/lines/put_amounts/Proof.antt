@@ -1,0 +1,40 @@
+-- `lines::put_amounts` meets its contract. Assumes nothing.
+use Rattle.printing.specs.Printed.{amounts}
+use Rattle.printing.proofs.Written.{_then_}
+use borrow.Author.Needs.{needs}
+use Rattle.printing.proofs.lines.put_amounts.Statement.{statement}
+use Rattle.printing.proofs.lines.put_amounts.Tie as tie
+
+slice-aggregate-put-field : tie.Need-slice-aggregate-put-field
+slice-aggregate-put-field c = search needs
+
+put-field-requires : tie.Need-put-field-requires
+put-field-requires c κs = search needs
+
+slice-aggregate-put-field-2 : tie.Need-slice-aggregate-put-field-2
+slice-aggregate-put-field-2 c = search needs
+
+put-field-requires-2 : tie.Need-put-field-requires-2
+put-field-requires-2 c κs = search needs
+
+put-requires : tie.Need-put-requires
+put-requires c κs = search needs
+
+same-length : tie.Need-same-length
+same-length c = search needs
+
+returns : tie.Need-returns
+unfolding amounts
+returns c = c .before .before .before .before .before .before .before .before .before .before .before .put-field .ensures then c .before .before .before .before .before .before .put-field2 .ensures then c .before .before .put .ensures
+
+pub put-amounts-spec : {M : Type 1} → statement M
+put-amounts-spec =
+    tie.close
+    (tie.spec
+    slice-aggregate-put-field
+    put-field-requires
+    slice-aggregate-put-field-2
+    put-field-requires-2
+    put-requires
+    same-length
+    returns)

@@ -1,0 +1,36 @@
+-- `lines::put_cut` meets its contract. Assumes nothing.
+use Rattle.printing.specs.Printed.{cutGroup}
+use Rattle.printing.proofs.Written.{_then_}
+use borrow.Author.Needs.{needs}
+use Rattle.printing.proofs.lines.put_cut.Statement.{statement}
+use Rattle.printing.proofs.lines.put_cut.Tie as tie
+
+slice-aggregate-put-bytes : tie.Need-slice-aggregate-put-bytes
+slice-aggregate-put-bytes c = search needs
+
+put-bytes-requires : tie.Need-put-bytes-requires
+put-bytes-requires c κs = search needs
+
+put-bundles-requires : tie.Need-put-bundles-requires
+put-bundles-requires c κs = search needs
+
+put-requires : tie.Need-put-requires
+put-requires c κs = search needs
+
+same-length : tie.Need-same-length
+same-length c = search needs
+
+returns : tie.Need-returns
+unfolding cutGroup
+returns c = c .before .before .before .before .before .before .before .before .before .before .put-bytes .ensures then c .before .before .before .before .before .before .put-bundles .ensures then c .before .before .put .ensures
+
+pub put-cut-spec : {M : Type 1} → statement M
+put-cut-spec =
+    tie.close
+    (tie.spec
+    slice-aggregate-put-bytes
+    put-bytes-requires
+    put-bundles-requires
+    put-requires
+    same-length
+    returns)

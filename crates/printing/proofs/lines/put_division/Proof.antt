@@ -1,0 +1,42 @@
+-- `lines::put_division` meets its contract. Assumes nothing.
+use Rattle.printing.specs.Printed.{allLines}
+use Rattle.printing.specs.internal.OutcomeText.{outcomeText}
+use Rattle.printing.proofs.Written.{_then_}
+use borrow.Author.Needs.{needs}
+use Rattle.printing.proofs.lines.put_division.Statement.{statement}
+use Rattle.printing.proofs.lines.put_division.Tie as tie
+
+put-head-requires : tie.Need-put-head-requires
+put-head-requires c κs = search needs
+
+put-yards-requires : tie.Need-put-yards-requires
+put-yards-requires c κs = search needs
+
+put-cutters-requires : tie.Need-put-cutters-requires
+put-cutters-requires c κs = search needs
+
+slice-aggregate-put-bytes : tie.Need-slice-aggregate-put-bytes
+slice-aggregate-put-bytes c = search needs
+
+put-bytes-requires : tie.Need-put-bytes-requires
+put-bytes-requires c κs = search needs
+
+same-length : tie.Need-same-length
+same-length c = search needs
+
+returns : tie.Need-returns
+unfolding outcomeText allLines
+returns c =
+    c .before .before .before .before .before .before .before .before .before .before .before .before .before .before .before .put-head .ensures then c .before .before .before .before .before .before .before .before .before .before .before .put-yards .ensures then c .before .before .before .before .before .before .before .put-cutters .ensures then c .before .before .put-bytes .ensures
+
+pub put-division-spec : {M : Type 1} → statement M
+put-division-spec =
+    tie.close
+    (tie.spec
+    put-head-requires
+    put-yards-requires
+    put-cutters-requires
+    slice-aggregate-put-bytes
+    put-bytes-requires
+    same-length
+    returns)

@@ -1,0 +1,51 @@
+-- `lines::put_pile` meets its contract. Assumes nothing.
+use mathlib.Core.Path.{sym}
+use lib.Seq.{length-take-le}
+use Rattle.printing.specs.Printed.{pileGroup}
+use Rattle.printing.proofs.Written.{_then_}
+use borrow.Author.Needs.{needs}
+use Rattle.printing.proofs.lines.put_pile.Statement.{statement}
+use Rattle.printing.proofs.lines.put_pile.Tie as tie
+
+items-of-requires : tie.Need-items-of-requires
+items-of-requires c κs = search needs
+
+slice-aggregate-put-bytes : tie.Need-slice-aggregate-put-bytes
+slice-aggregate-put-bytes c = search needs
+
+put-bytes-requires : tie.Need-put-bytes-requires
+put-bytes-requires c κs = search needs
+
+array-share-prefix-numbers : tie.Need-array-share-prefix-numbers
+array-share-prefix-numbers c = search needs
+
+slice-aggregate-put-spaced : tie.Need-slice-aggregate-put-spaced
+slice-aggregate-put-spaced c = let bundle = c .before .before .before .before .before .before .before .before .items-of in sym (length-take-le (bundle .result .count) (bundle .result .numbers) (bundle .ensures .few))
+
+put-spaced-requires : tie.Need-put-spaced-requires
+put-spaced-requires c κs = search needs
+
+put-requires : tie.Need-put-requires
+put-requires c κs = search needs
+
+same-length : tie.Need-same-length
+same-length c = search needs
+
+returns : tie.Need-returns
+unfolding pileGroup
+returns c =
+    c .before .before .before .before .before .before .before .before .before .before .before .put-bytes .ensures then rw (c .before .before .before .before .before .before .before .before .before .before .before .before .before .before .before .items-of .ensures .listed) at (c .before .before .before .before .before .before .put-spaced .ensures) then c .before .before .put .ensures
+
+pub put-pile-spec : {M : Type 1} → statement M
+put-pile-spec =
+    tie.close
+    (tie.spec
+    items-of-requires
+    slice-aggregate-put-bytes
+    put-bytes-requires
+    array-share-prefix-numbers
+    slice-aggregate-put-spaced
+    put-spaced-requires
+    put-requires
+    same-length
+    returns)

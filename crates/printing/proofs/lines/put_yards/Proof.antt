@@ -1,0 +1,106 @@
+-- `lines::put_yards` meets its contract. The loop's invariant: the lines of the first i agents are written. Assumes nothing.
+use mathlib.Core.Path.{_≡_, refl, _∙_}
+use mathlib.Core.List.{flatMap}
+use Rattle.lists.specs.Lists.{range}
+use Prim.Native.Nat.{_-_, _≤_}
+use native.Mathlib.Omega.{arith}
+use lib.ListN.{length}
+use Rattle.printing.specs.internal.Output.{output, Written}
+use Rattle.printing.specs.internal.OutcomeText.{outcomeLine}
+use Rattle.printing.proofs.Written.{nothing, _then_}
+use Rattle.printing.proofs.Texts.{flatMap-next}
+use Rattle.printing.proofs.OutcomeTexts.{outcomeLine-next}
+use Rattle.printing.proofs.lines.put_yards.Statement.{statement}
+use Rattle.printing.proofs.lines.put_yards.Tie as tie
+
+abbrev Inv-loop : tie.InvT-loop
+Inv-loop buffer₀ at yards pieces table bundles shares cuts next₀ i₀ buffer next i =
+    (i ≤ yards) × (length buffer ≡ length buffer₀) × Written (output buffer₀ at) (flatMap (outcomeLine yards pieces table bundles shares cuts) (range 1 i)) (output buffer next)
+
+abbrev μ-loop : tie.MeasureT-loop
+μ-loop buffer₀ at yards pieces table bundles shares cuts next₀ i₀ buffer next i = yards - i
+
+loop-holds : tie.Need-loop-holds Inv-loop μ-loop
+unfolding flatMap
+loop-holds c = (omega arith, refl, nothing)
+
+mul-marks : tie.Need-mul-marks Inv-loop μ-loop
+mul-marks c = omega arith
+
+array-copy-out-marks : tie.Need-array-copy-out-marks Inv-loop μ-loop
+array-copy-out-marks c = omega arith
+
+mul-cut : tie.Need-mul-cut Inv-loop μ-loop
+mul-cut c = omega arith
+
+array-copy-out-cut : tie.Need-array-copy-out-cut Inv-loop μ-loop
+array-copy-out-cut c = omega arith
+
+add-put-yard : tie.Need-add-put-yard Inv-loop μ-loop
+add-put-yard c = omega arith
+
+mul-put-yard : tie.Need-mul-put-yard Inv-loop μ-loop
+mul-put-yard c = omega arith
+
+array-read-put-yard : tie.Need-array-read-put-yard Inv-loop μ-loop
+array-read-put-yard c = omega arith
+
+mul-put-yard-2 : tie.Need-mul-put-yard-2 Inv-loop μ-loop
+mul-put-yard-2 c = omega arith
+
+array-read-put-yard-2 : tie.Need-array-read-put-yard-2 Inv-loop μ-loop
+array-read-put-yard-2 c = omega arith
+
+put-yard-requires : tie.Need-put-yard-requires Inv-loop μ-loop
+put-yard-requires c κs = c .before .before .before .before .before .before .before .before .before .before .pre
+
+add-i : tie.Need-add-i Inv-loop μ-loop
+add-i c = omega arith
+
+loop-less : tie.Need-loop-less Inv-loop μ-loop
+loop-less c = omega arith
+
+loop-again : tie.Need-loop-again Inv-loop μ-loop
+loop-again c =
+    let l = c .before .before .before .before .before .before .before .before .loop in
+    let s = c .before .before .before .before .before .before .before .before .before .before .before .before .before in
+    let a = s .args in
+    let line = c .before .before .put-yard in
+    let lines = outcomeLine (a .yards) (a .pieces) (a .t5) (a .outcome .bundles) (a .outcome .shares) (a .outcome .cuts) in (
+      omega arith,
+      line .kept .0 ∙ l .inv .1,
+      rw (flatMap-next lines (l .i), outcomeLine-next (a .yards) (a .pieces) (a .t5) (a .outcome .bundles) (a .outcome .shares) (a .outcome .cuts) (l .i))
+          (l .inv .2 then line .ensures),
+    )
+
+same-length : tie.Need-same-length Inv-loop μ-loop
+same-length c = c .before .loop .inv .1
+
+returns : tie.Need-returns Inv-loop μ-loop
+returns c =
+    let l = c .before .loop in
+    let all : l .i ≡ c .before .before .before .before .before .before .args .yards = omega arith in
+    rw all at (l .inv .2)
+
+pub put-yards-spec : {M : Type 1} → statement M
+put-yards-spec =
+    tie.close
+    (tie.spec
+    Inv-loop
+    μ-loop
+    loop-holds
+    mul-marks
+    array-copy-out-marks
+    mul-cut
+    array-copy-out-cut
+    add-put-yard
+    mul-put-yard
+    array-read-put-yard
+    mul-put-yard-2
+    array-read-put-yard-2
+    put-yard-requires
+    add-i
+    loop-less
+    loop-again
+    same-length
+    returns)

@@ -1,0 +1,62 @@
+-- `print` meets its contract: a refusal of the division is passed on, and a division is printed. Assumes nothing.
+use mathlib.Core.Path.{refl, sym, ap, _∙_}
+use lib.ListN.{length}
+use Rattle.sheet.specs.Limits.{mostAgents, mostItems}
+use Rattle.printing.proofs.Answers.{table-small, refusal-printed, Accepted, divided-accepted, division-printed, text-short}
+use borrow.Author.Needs.{needs}
+use Rattle.printing.proofs.print.Statement.{statement}
+use Rattle.printing.proofs.print.Tie as tie
+
+-- the table is accepted, with the grade that the match binds
+accepted : (c : tie.After-answer2) → let a = c .before .before .before .before .args in Accepted (a .yards) (a .pieces) (a .table) (c .answer2 .given .0 .0)
+accepted c =
+    let a = c .before .before .before .before .args in
+    divided-accepted (a .yards) (a .pieces) (a .table) (c .answer2 .given .0 .0) (sym (ap (λ o. o .answer) (c .before .before .divide .ensures .0)) ∙ c .answer2 .given .1)
+
+divide-requires : tie.Need-divide-requires
+divide-requires c κs = search needs
+
+enum-known-answer : tie.Need-enum-known-answer
+enum-known-answer c = search needs
+
+enum-known-answer-2 : tie.Need-enum-known-answer-2
+enum-known-answer-2 c = search needs
+
+print-outcome-requires : tie.Need-print-outcome-requires
+print-outcome-requires c κs =
+    let s = c .before .before .before .before .before .before in
+    let a = s .args in
+    let told = accepted (c .before .before) in (
+      told .limits .few,
+      told .limits .few-items,
+      rw (c .before .before .before .before .divide .ensures .0)
+          (text-short (a .yards) (a .pieces) (a .table) (c .before .before .answer2 .given .0 .0) told (table-small mostAgents mostItems (a .table) _ (s .good .0))),
+    )
+
+returns : tie.Need-returns
+returns c =
+    let a = c .before .before .before .before .before .args in
+    rw (refusal-printed (a .yards) (a .pieces) (a .table) (length (a .buffer .now)) (c .before .answer .given .0 .0) (sym (ap (λ o. o .answer) (c .before .before .before .divide .ensures .0)) ∙ c .before .answer .given .1))
+    (refl, refl)
+
+same-length : tie.Need-same-length
+same-length c = search needs
+
+returns-2 : tie.Need-returns-2
+returns-2 c =
+    let a = c .before .before .before .before .before .before .before .before .before .args in
+    let printed = c .before .before .print-outcome in
+    rw (← division-printed (a .yards) (a .pieces) (a .table) (c .before .before .before .before .before .answer2 .given .0 .0) (accepted (c .before .before .before .before .before)) (length (a .buffer .now)), ← c .before .before .before .before .before .before .before .divide .ensures .0)
+    (printed .ensures)
+
+pub print-spec : {M : Type 1} → statement M
+print-spec =
+    tie.close
+    (tie.spec
+    divide-requires
+    enum-known-answer
+    enum-known-answer-2
+    print-outcome-requires
+    returns
+    same-length
+    returns-2)

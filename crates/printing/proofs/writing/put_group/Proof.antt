@@ -1,0 +1,75 @@
+-- `writing::put_group` meets its contract. Assumes nothing.
+use native.Mathlib.Omega.{arith}
+use borrow.Author.Needs.{needs}
+use Rattle.lists.proofs.Passing.{first-and-rest}
+use Rattle.printing.proofs.Written.{_then_}
+use Rattle.printing.proofs.Texts.{empty}
+use Rattle.printing.proofs.writing.put_group.Statement.{statement}
+use Rattle.printing.proofs.writing.put_group.Tie as tie
+
+slice-aggregate-put-bytes : tie.Need-slice-aggregate-put-bytes
+slice-aggregate-put-bytes c = search needs
+
+put-bytes-requires : tie.Need-put-bytes-requires
+put-bytes-requires c κs = search needs
+
+same-length : tie.Need-same-length
+same-length c = search needs
+
+returns : tie.Need-returns
+returns c = rw (empty (c .before .before .before .before .before .before .before .before .args .numbers .now) (omega arith)) (c .before .before .put-bytes .ensures)
+
+slice-aggregate-put-field : tie.Need-slice-aggregate-put-field
+slice-aggregate-put-field c = search needs
+
+shared-slice-read-wide : tie.Need-shared-slice-read-wide
+shared-slice-read-wide c = search needs
+
+wide-requires : tie.Need-wide-requires
+wide-requires c κs = search needs
+
+put-field-requires : tie.Need-put-field-requires
+put-field-requires c κs = search needs
+
+sub-put-spaced : tie.Need-sub-put-spaced
+sub-put-spaced c = search needs
+
+part-put-spaced-start : tie.Need-part-put-spaced-start
+part-put-spaced-start c = search needs
+
+part-put-spaced-end : tie.Need-part-put-spaced-end
+part-put-spaced-end c = search needs
+
+put-spaced-requires : tie.Need-put-spaced-requires
+put-spaced-requires c κs = search needs
+
+put-requires : tie.Need-put-requires
+put-requires c κs = search needs
+
+same-length-2 : tie.Need-same-length-2
+same-length-2 c = search needs
+
+returns-2 : tie.Need-returns-2
+returns-2 c =
+    rw (first-and-rest (c .before .before .before .before .before .before .before .before .before .before .before .before .before .before .before .before .before .before .before .args .numbers .now) (omega arith))
+    (rw (c .before .before .before .before .before .before .before .before .before .before .before .before .wide .ensures) at (c .before .before .before .before .before .before .before .before .before .before .before .put-field .ensures) then c .before .before .before .before .before .before .put-spaced .ensures then c .before .before .put .ensures)
+
+pub put-group-spec : {M : Type 1} → statement M
+put-group-spec =
+    tie.close
+    (tie.spec
+    slice-aggregate-put-bytes
+    put-bytes-requires
+    same-length
+    returns
+    slice-aggregate-put-field
+    shared-slice-read-wide
+    wide-requires
+    put-field-requires
+    sub-put-spaced
+    part-put-spaced-start
+    part-put-spaced-end
+    put-spaced-requires
+    put-requires
+    same-length-2
+    returns-2)

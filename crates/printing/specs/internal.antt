@@ -1,0 +1,4 @@
+-- What the contracts of private functions cite.
+pub mod Output
+pub mod Items
+pub mod OutcomeText

@@ -1,0 +1,23 @@
+-- The text of an outcome as the code has it, in arrays: sets for bundles, partitions in twelve places, 0 after the last cutter.
+-- Assumes nothing: these are definitions.
+use mathlib.Core.List.{List, []}
+use Prim.Native.Nat.{ℕ}
+use Rattle.lists.specs.Lists.{nth}
+use Rattle.sheet.specs.Sets.{items}
+use Rattle.division.specs.Valuations.{valuation}
+use Rattle.division.specs.declared.Cut.{Cut}
+use Rattle.division.specs.declared.Outcome.{Outcome}
+use Rattle.printing.specs.internal.Items.{beforeZero}
+use Rattle.printing.specs.Printed.{yardLine, allLines}
+
+-- what stands beyond the last place of an array of cuts
+abbrev pub noCut : Cut
+noCut = record { partition = [] }
+
+-- the line of agent i
+abbrev pub outcomeLine : ℕ → ℕ → List (List ℕ) → List ℕ → List ℕ → List Cut → ℕ → List ℕ
+outcomeLine n m table bundles shares cuts i = yardLine n m i (valuation table i) (items (nth 0 bundles i)) (nth 0 shares i) (nth noCut cuts i .partition)
+
+-- the whole text
+unfoldable pub outcomeText : ℕ → ℕ → List (List ℕ) → ℕ → Outcome → List ℕ
+outcomeText n m table grade o = allLines n m grade (outcomeLine n m table (o .bundles) (o .shares) (o .cuts)) (beforeZero (o .cutters))
