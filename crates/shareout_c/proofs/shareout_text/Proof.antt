@@ -1,0 +1,49 @@
+-- `shareout_c::shareout_text` meets its contract, by what `whole::share_out` ensures and the case of its answer. Assumes nothing.
+use mathlib.Core.Path.{sym, _∙_}
+use lib.ListN.{length}
+use Rattle.whole.specs.ShareOut.{shareOut}
+use Rattle.shareout_c.proofs.Lent.{lent-refused, lent-printed}
+use borrow.Author.Needs.{needs}
+use Rattle.shareout_c.proofs.shareout_text.Statement.{statement}
+use Rattle.shareout_c.proofs.shareout_text.Tie as tie
+
+share-out-requires : tie.Need-share-out-requires
+share-out-requires c κs = search needs
+
+enum-known-answer : tie.Need-enum-known-answer
+enum-known-answer c = search needs
+
+enum-known-answer-2 : tie.Need-enum-known-answer-2
+enum-known-answer-2 c = search needs
+
+same-length : tie.Need-same-length
+same-length c = search needs
+
+returns : tie.Need-returns
+returns c =
+    let s = c .before .before .before .before .before in
+    let a = s .before .before .before .before .args in
+    let told = lent-refused (shareOut (a .text .now) (length (a .buffer .now))) (c .before .answer .given .0 .0) (sym (s .share-out .ensures .0) ∙ c .before .answer .given .1) in
+    (told .0, (s .share-out .ensures .1, told .1))
+
+same-length-2 : tie.Need-same-length-2
+same-length-2 c = search needs
+
+returns-2 : tie.Need-returns-2
+returns-2 c =
+    let s = c .before .before .before .before .before in
+    let a = s .before .before .before .before .args in
+    let told = lent-printed (shareOut (a .text .now) (length (a .buffer .now))) (c .before .answer2 .given .0 .0) (sym (s .share-out .ensures .0) ∙ c .before .answer2 .given .1) in
+    (told .0, (s .share-out .ensures .1, told .1))
+
+pub shareout-text-spec : {M : Type 1} → statement M
+shareout-text-spec =
+    tie.close
+    (tie.spec
+    share-out-requires
+    enum-known-answer
+    enum-known-answer-2
+    same-length
+    returns
+    same-length-2
+    returns-2)

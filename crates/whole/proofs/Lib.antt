@@ -1,0 +1,3 @@
+-- Laws of the whole box, and the theorem that every accepted text is printed.
+pub mod Composed
+pub mod Fits
