@@ -1,0 +1,33 @@
+// The program: a sheet on standard input, its division or one line such as `(refused 4)` on standard output.
+use libc::STDIN_FILENO;
+use libc::STDOUT_FILENO;
+use printing::Answer;
+use sheet::Sheet;
+
+// One byte more than the longest text, so that a longer one is seen to be longer.
+const ROOM: usize = Sheet::LONGEST_TEXT + 1;
+
+fn main() {
+    let mut text = [0u8; ROOM];
+    let got = io::read_full(STDIN_FILENO, &mut text);
+    let mut buffer = [0u8; printing::LONGEST];
+    let answer = whole::share_out(&text[..got], &mut buffer);
+    match answer {
+        Answer::Refused(number) => refuse(number),
+        Answer::Printed(length) => print_front(&buffer, length),
+    }
+}
+
+// The first bytes of the buffer, which is never shorter than what was printed into it.
+fn print_front(buffer: &[u8], length: usize) {
+    if length <= buffer.len() {
+        io::write_all(STDOUT_FILENO, &buffer[..length]);
+    }
+}
+
+// The line of a refusal.
+fn refuse(number: u8) {
+    io::write_all(STDOUT_FILENO, b"(refused ");
+    io::print_decimal(STDOUT_FILENO, number as u64);
+    io::write_all(STDOUT_FILENO, b")\n");
+}

@@ -1,0 +1,136 @@
+// Runs the whole box on the sample sheets of document 01: for each, its name and what the program prints.
+use libc::STDOUT_FILENO;
+use printing::Answer;
+use sheet::Sheet;
+
+// One byte more than the longest text.
+const TOO_LONG: usize = Sheet::LONGEST_TEXT + 1;
+
+fn main() {
+    starred();
+    counts();
+    marks();
+    let long = [b'\n'; TOO_LONG];
+    show(b"j\n", &long);
+}
+
+// Sheets a to i; the rows that g and h cut, as sheets of equal rows.
+fn starred() {
+    show(
+        b"a\n",
+        b"(sheet (yards 2) (pieces 3))\n(yard 1 (marks 5 3 4))\n(yard 2 (marks 6 2 2))\n(end)\n",
+    );
+    show(
+        b"b\n",
+        b"(sheet (yards 3) (pieces 4))\n(yard 1 (marks 1 1 1 1))\n(yard 2 (marks 6 6 3 3))\n(yard 3 (marks 2 2 2 2))\n(end)\n",
+    );
+    show(
+        b"c\n",
+        b"(sheet (yards 3) (pieces 4))\n(yard 1 (marks 1 1 1 1))\n(yard 2 (marks 4 4 3 1))\n(yard 3 (marks 1 1 1 1))\n(end)\n",
+    );
+    show(
+        b"d\n",
+        b"(sheet (yards 3) (pieces 4))\n(yard 1 (marks 1 1 1 1))\n(yard 2 (marks 8 8 5 3))\n(yard 3 (marks 1 1 1 1))\n(end)\n",
+    );
+    show(
+        b"e\n",
+        b"(sheet (yards 2) (pieces 1))\n(yard 1 (marks 7))\n(yard 2 (marks 9))\n(end)\n",
+    );
+    show(
+        b"f\n",
+        b"(sheet (yards 2) (pieces 2))\n(yard 1 (marks 0 0))\n(yard 2 (marks 0 0))\n(end)\n",
+    );
+    show(
+        b"g as three equal rows\n",
+        b"(sheet (yards 3) (pieces 7))\n(yard 1 (marks 1 2 3 4 5 6 7))\n(yard 2 (marks 1 2 3 4 5 6 7))\n(yard 3 (marks 1 2 3 4 5 6 7))\n(end)\n",
+    );
+    show(
+        b"h as two equal rows\n",
+        b"(sheet (yards 2) (pieces 4))\n(yard 1 (marks 2 2 2 2))\n(yard 2 (marks 2 2 2 2))\n(end)\n",
+    );
+    show(
+        b"i\n",
+        b"(sheet (yards 1) (pieces 3))\n(yard 1 (marks 3 0 9))\n(end)\n",
+    );
+}
+
+// Sheet j: counts at the limits and beyond.
+fn counts() {
+    show(
+        b"j\n",
+        b"(sheet (yards 6) (pieces 3))\n(yard 1 (marks 1 1 1))\n(yard 2 (marks 1 1 1))\n(yard 3 (marks 1 1 1))\n(yard 4 (marks 1 1 1))\n(yard 5 (marks 1 1 1))\n(yard 6 (marks 1 1 1))\n(end)\n",
+    );
+    show(b"j\n", b"(sheet (yards 0) (pieces 3))\n(end)\n");
+    show(
+        b"j\n",
+        b"(sheet (yards 7) (pieces 3))\n(yard 1 (marks 1 1 1))\n(yard 2 (marks 1 1 1))\n(yard 3 (marks 1 1 1))\n(yard 4 (marks 1 1 1))\n(yard 5 (marks 1 1 1))\n(yard 6 (marks 1 1 1))\n(yard 7 (marks 1 1 1))\n(end)\n",
+    );
+    show(
+        b"j\n",
+        b"(sheet (yards 2) (pieces 12))\n(yard 1 (marks 1 1 1 1 1 1 1 1 1 1 1 1))\n(yard 2 (marks 1 1 1 1 1 1 1 1 1 1 1 1))\n(end)\n",
+    );
+    show(
+        b"j\n",
+        b"(sheet (yards 2) (pieces 0))\n(yard 1 (marks ))\n(yard 2 (marks ))\n(end)\n",
+    );
+    show(
+        b"j\n",
+        b"(sheet (yards 2) (pieces 13))\n(yard 1 (marks 1 1 1 1 1 1 1 1 1 1 1 1 1))\n(yard 2 (marks 1 1 1 1 1 1 1 1 1 1 1 1 1))\n(end)\n",
+    );
+}
+
+// Sheet j: marks at the limits and beyond.
+fn marks() {
+    show(
+        b"j\n",
+        b"(sheet (yards 2) (pieces 3))\n(yard 1 (marks 65535 1 1))\n(yard 2 (marks 1 1 1))\n(end)\n",
+    );
+    show(
+        b"j\n",
+        b"(sheet (yards 2) (pieces 3))\n(yard 1 (marks 65536 1 1))\n(yard 2 (marks 1 1 1))\n(end)\n",
+    );
+    show(
+        b"j\n",
+        b"(sheet (yards 2) (pieces 3))\n(yard 1 (marks 99999 1 1))\n(yard 2 (marks 1 1 1))\n(end)\n",
+    );
+    show(
+        b"j\n",
+        b"(sheet (yards 2) (pieces 3))\n(yard 1 (marks 100000 1 1))\n(yard 2 (marks 1 1 1))\n(end)\n",
+    );
+    show(
+        b"j\n",
+        b"(sheet (yards 2) (pieces 3))\n(yard 1 (marks 05 1 1))\n(yard 2 (marks 1 1 1))\n(end)\n",
+    );
+    show(
+        b"j\n",
+        b"(sheet (yards 7) (pieces 3))\n(yard 1 (marks 70000 1 1))\n(yard 2 (marks 1 1 1))\n(yard 3 (marks 1 1 1))\n(yard 4 (marks 1 1 1))\n(yard 5 (marks 1 1 1))\n(yard 6 (marks 1 1 1))\n(yard 7 (marks 1 1 1))\n(end)\n",
+    );
+}
+
+fn print(text: &[u8]) {
+    io::write_all(STDOUT_FILENO, text);
+}
+
+fn show(name: &[u8], text: &[u8]) {
+    print(name);
+    let mut buffer = [0u8; printing::LONGEST];
+    let answer = whole::share_out(text, &mut buffer);
+    match answer {
+        Answer::Refused(number) => refuse(number),
+        Answer::Printed(length) => print_front(&buffer, length),
+    }
+}
+
+// The first bytes of the buffer, which is never shorter than what was printed into it.
+fn print_front(buffer: &[u8], length: usize) {
+    if length <= buffer.len() {
+        print(&buffer[..length]);
+    }
+}
+
+// The line of a refusal.
+fn refuse(number: u8) {
+    print(b"(refused ");
+    io::print_decimal(STDOUT_FILENO, number as u64);
+    print(b")\n");
+}
