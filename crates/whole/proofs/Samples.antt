@@ -1,0 +1,23 @@
+-- Sheet a of document 01, from its text to its printed text, by computation. Assumes nothing.
+use mathlib.Core.Path.{_≡_, refl}
+use mathlib.Core.List.{flatMap}
+use Rattle.text.specs.Bytes.{bytes}
+use Rattle.text.specs.Decimal.{digitsIn, decimal, spacedNumbers}
+use Rattle.reading.specs.Tokens.{tokensAfter, laidOut, lexemes, withByte, prefixed, continues, widen}
+use Rattle.reading.specs.Grammar as grammar
+use Rattle.reading.specs.Reading.{reading, ofHead, ofYardLines, fullTable, allRowsFit, allFit}
+use Rattle.cut.specs.Share.{maximinShare, maximinPartition}
+use Rattle.matching.specs.Matching.{waitingSet, matching}
+use Rattle.division.specs.Ratio.{largestOdd, termsFor}
+use Rattle.division.specs.Valuations.{profile}
+use Rattle.division.specs.Round.{round, rounds, held}
+use Rattle.division.specs.Grade.{envyFree, proportional, maximinFair, grade}
+use Rattle.division.specs.Division.{divisionOf, shareExceeds, answer}
+use Rattle.printing.specs.Printed.{headLine, pileGroup, amounts, cutGroup, yardLine, cuttersLine, allLines, printed}
+use Rattle.printing.specs.Printing.{text, printing, longestPrinted}
+use Rattle.whole.specs.ShareOut.{shareOut}
+
+pub sheet-a : shareOut (bytes "(sheet (yards 2) (pieces 3))\n(yard 1 (marks 5 3 4))\n(yard 2 (marks 6 2 2))\n(end)\n") longestPrinted
+    ≡ text (bytes "(division (yards 2) (pieces 3) (grade 3))\n(yard 1 (pile 1) (worth 5) (share 5) (cut (1) (2 3)))\n(yard 2 (pile 2 3) (worth 4) (share 4) (cut (1) (2 3)))\n(cutters 1)\n(end)\n")
+unfolding shareOut reading ofHead ofYardLines fullTable allRowsFit allFit grammar.endLine grammar.yardLines grammar.yardLine grammar.yardTurn grammar.marks grammar.head grammar.numberAfter grammar.number grammar.digitsAfter grammar.isNumber grammar.follow tokensAfter laidOut lexemes withByte prefixed continues widen answer divisionOf shareExceeds profile termsFor largestOdd round rounds held waitingSet matching maximinShare maximinPartition grade envyFree proportional maximinFair printing printed allLines headLine pileGroup amounts cutGroup yardLine cuttersLine digitsIn decimal spacedNumbers flatMap
+sheet-a = refl
