@@ -14,14 +14,9 @@ fn main() {
     let answer = whole::share_out(&text[..got], &mut buffer);
     match answer {
         Answer::Refused(number) => refuse(number),
-        Answer::Printed(length) => print_front(&buffer, length),
-    }
-}
-
-// The first bytes of the buffer, which is never shorter than what was printed into it.
-fn print_front(buffer: &[u8], length: usize) {
-    if length <= buffer.len() {
-        io::write_all(STDOUT_FILENO, &buffer[..length]);
+        Answer::Printed(length) => {
+            io::write_all(STDOUT_FILENO, &buffer[..length]);
+        }
     }
 }
 

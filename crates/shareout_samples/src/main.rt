@@ -117,14 +117,7 @@ fn show(name: &[u8], text: &[u8]) {
     let answer = whole::share_out(text, &mut buffer);
     match answer {
         Answer::Refused(number) => refuse(number),
-        Answer::Printed(length) => print_front(&buffer, length),
-    }
-}
-
-// The first bytes of the buffer, which is never shorter than what was printed into it.
-fn print_front(buffer: &[u8], length: usize) {
-    if length <= buffer.len() {
-        print(&buffer[..length]);
+        Answer::Printed(length) => print(&buffer[..length]),
     }
 }
 
