@@ -1,15 +1,16 @@
 -- Which answer a table gets: a division by the rounds, or a refusal; never a refusal where the counts are within the limits. Assumes nothing.
 use mathlib.Core.Path.{_≡_, refl}
-use mathlib.Core.Bool.{Bool, true, false, and-eq-true-iff}
+use mathlib.Core.Bool.{Bool, true, false}
 use mathlib.Core.Logic.{_⊎_, inl, inr}
 use mathlib.Core.List.{List}
-use Prim.Native.Nat.{ℕ, _*_, _≤_, _<_}
+use Prim.Native.Nat.{ℕ, _*_, _≤_}
 use native.Mathlib.Omega.{arith}
-use lib.Dec.{leb, ltb}
-use borrow.Author.Tests.{le-leb, lt-leb, le-ltb, leb-true}
+use lib.Dec.{ltb}
+use borrow.Author.Tests.{le-ltb}
 use Rattle.lists.specs.Sums.{total}
 use Rattle.lists.proofs.Counting.{any-none}
 use Rattle.sheet.specs.Limits.{mostAgents, mostItems, within}
+use Rattle.sheet.proofs.Limits.{within-bounds, within-both}
 use Rattle.cut.specs.Share.{maximinShare}
 use Rattle.cut.proofs.Laws.{shares-le-total}
 use Rattle.division.specs.Valuations.{profile}
@@ -18,19 +19,6 @@ use Rattle.division.specs.Division.{Division, refused, divided, shareExc
 -- the division of a table by the rounds of document 01
 abbrev pub divisionByRounds : ℕ → ℕ → List (List ℕ) → Division
 divisionByRounds n m table = divisionOf n m (standardInstance n m table)
-
--- whether a count lies in 1 .. most, by the code's two tests
-pub within-low : (most n : ℕ) → n < 1 → within most n ≡ false
-within-low most n low = rw (lt-leb 1 n low)
-
-pub within-high : (most n : ℕ) → most < n → within most n ≡ false
-within-high most n high = rw (le-leb 1 n (omega arith), lt-leb n most high)
-
-pub within-both : (most n : ℕ) → 1 ≤ n → n ≤ most → within most n ≡ true
-within-both most n some few = rw (le-leb 1 n some, le-leb n most few)
-
-within-bounds : (most n : ℕ) → within most n ≡ true → (1 ≤ n) × (n ≤ most)
-within-bounds most n e = let (lo, hi) = and-eq-true-iff (leb 1 n) (leb n most) .0 e in (leb-true 1 n lo, leb-true n most hi)
 
 -- which answer, by the three tests in turn
 module _ (n m : ℕ) (table : List (List ℕ)) where
@@ -53,7 +41,7 @@ module _ (n m : ℕ) (table : List (List ℕ)) where
       answer-divided fair = rw (agents-fit, items-fit, fair)
 
 -- the counts are within the limits
-pub record Within (n m : ℕ) : Type 0 where
+pub record CountsWithin (n m : ℕ) : Type 0 where
   pub some : 1 ≤ n
   pub few : n ≤ mostAgents
   pub some-items : 1 ≤ m
@@ -61,11 +49,11 @@ pub record Within (n m : ℕ) : Type 0 where
 
 -- a table is divided by the rounds, and then its counts are within the limits, or it is refused
 pub answer-cases : (n m : ℕ) (table : List (List ℕ))
-    → ((answer n m table ≡ divided (divisionByRounds n m table)) × Within n m) ⊎ ((number : ℕ) × (answer n m table ≡ refused number))
+    → ((answer n m table ≡ divided (divisionByRounds n m table)) × CountsWithin n m) ⊎ ((number : ℕ) × (answer n m table ≡ refused number))
 answer-cases n m table = step (within mostAgents n) refl (within mostItems m) refl (shareExceeds n (profile n m table)) refl
   where
     step : (b : Bool) → within mostAgents n ≡ b → (c : Bool) → within mostItems m ≡ c → (d : Bool) → shareExceeds n (profile n m table) ≡ d
-        → ((answer n m table ≡ divided (divisionByRounds n m table)) × Within n m) ⊎ ((number : ℕ) × (answer n m table ≡ refused number))
+        → ((answer n m table ≡ divided (divisionByRounds n m table)) × CountsWithin n m) ⊎ ((number : ℕ) × (answer n m table ≡ refused number))
     step false e c f d g = inr (4, answer-agents-outside n m table e)
     step true e false f d g = inr (5, answer-items-outside n m table e f)
     step true e true f true g = inr (9, answer-share-exceeds n m table e f g)

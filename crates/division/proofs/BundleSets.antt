@@ -10,7 +10,7 @@ use lib.Dec.{eqb}
 use lib.ListN.{length, getD}
 use Rattle.lists.specs.Lists.{range, consIf, elem, distinct}
 use Rattle.lists.specs.Sums.{sumOver}
-use Rattle.lists.proofs.Counting.{filter-sublist}
+use Rattle.lists.proofs.Counting.{filter-sublist, consIf-append}
 use Rattle.lists.proofs.Totals.{sumOver-cong}
 use Rattle.sheet.specs.Sets.{names, setOf}
 use Rattle.sheet.proofs.Items.{itemsUpTo, itemsUpTo-taken, itemsUpTo-left, setOf-append}
@@ -19,16 +19,11 @@ use Rattle.division.specs.Round.{itemsIn, bundle}
 use Rattle.division.proofs.Bundles.{itemsIn-sublist, sumOver-handed}
 
 -- one item more
-itemsIn-snoc : (t : ℕ → Bool) (ks : List ℕ) (k : ℕ) (l : List ℕ) → length ks < length l
+pub itemsIn-snoc : (t : ℕ → Bool) (ks : List ℕ) (k : ℕ) (l : List ℕ) → length ks < length l
     → itemsIn t (ks ++ (k ∷ [])) l ≡ itemsIn t ks l ++ consIf (t (getD l (length ks) 0)) k []
-itemsIn-snoc t [] k [] few = absurd (omega arith)
+itemsIn-snoc t ks k [] few = absurd (omega arith)
 itemsIn-snoc t [] k (c ∷ l) few = refl
-itemsIn-snoc t (j ∷ ks) k [] few = absurd (omega arith)
 itemsIn-snoc t (j ∷ ks) k (c ∷ l) few = ap (consIf (t c) j) (itemsIn-snoc t ks k l (omega arith)) ∙ consIf-append (t c) j (itemsIn t ks l) (consIf (t (getD l (length ks) 0)) k [])
-  where
-    consIf-append : (b : Bool) (x : ℕ) (xs ys : List ℕ) → consIf b x (xs ++ ys) ≡ consIf b x xs ++ ys
-    consIf-append true x xs ys = refl
-    consIf-append false x xs ys = refl
 
 -- entries beyond the items count for nothing
 pub itemsIn-append : (t : ℕ → Bool) (ks l l′ : List ℕ) → length ks ≤ length l → itemsIn t ks (l ++ l′) ≡ itemsIn t ks l

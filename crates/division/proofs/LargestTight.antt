@@ -19,7 +19,7 @@ use Rattle.matching.specs.Matching.{wanted, neighbours, tight, waitingSet, free
 use Rattle.division.specs.internal.Serving.{after, Searching, largestTight}
 use Rattle.lists.proofs.Passing.{within-append}
 use Rattle.division.proofs.After.{after-cons, after-none}
-use Rattle.division.proofs.FirstBest.{firstBest-one, firstBest-better, firstBest-head, firstBest-append, longest-from-empty}
+use Rattle.lists.proofs.FirstBest.{firstBest-one, firstBest-better, firstBest-head, firstBest-append, longest-from-empty}
 
 module _ (suits : ℕ → ℕ → Bool) (bundles : ℕ) where
   abbrev is-tight : List ℕ → Bool

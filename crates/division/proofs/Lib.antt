@@ -21,7 +21,6 @@ pub mod Theorems
 pub mod Samples
 -- serving: who waits, who gets what
 pub mod Numbers
-pub mod FirstBest
 pub mod After
 pub mod LargestTight
 pub mod FirstMatching

@@ -1,18 +1,18 @@
 -- Who waits, who is served with what: the parts of what the agents left settle are numbers of agents and of bundles. Assumes nothing.
 use mathlib.Core.Path.{_≡_, refl, sym, ap, _∙_}
 use mathlib.Core.Bool.{Bool, true, not, true≢false, and-eq-true-iff}
-use mathlib.Core.List.{List, [], _∷_, _++_, map, List·Memᴰ as Mem}
-use Prim.Native.Nat.{ℕ, zero, suc, _+_, _-_, _≤_}
-use native.Mathlib.Nat.{zero-add}
+use mathlib.Core.List.{List, _∷_, map, List·Memᴰ as Mem}
+use Prim.Native.Nat.{ℕ, _-_, _≤_}
 use native.Mathlib.Omega.{arith}
 use lib.Dec.{eqb}
 use lib.ListN.{length, getD, take, drop}
 use borrow.Author.Tests.{eq-eqb, ne-eqb, not-true}
-use Rattle.lists.specs.Lists.{range, zeros, nth, elem, distinct, Within}
+use Rattle.lists.specs.Lists.{range, nth, elem, distinct, Within}
 use Rattle.lists.specs.Sums.{total}
 use Rattle.lists.proofs.Ranges.{mem-within}
 use Rattle.lists.proofs.Counting.{sublist-mem, reject-mem, reject-sublist, length-sublist, filter-all}
 use Rattle.lists.proofs.Distinct.{mem-elem}
+use Rattle.lists.proofs.Zeros.{total-zeros}
 use Rattle.sheet.specs.Limits.{mostAgents}
 use Rattle.sheet.proofs.Ranges.{range-sublist}
 use Rattle.matching.specs.Matching.{without, servedAgents, wanted, waitingSet, freeBundles, matching}
@@ -31,15 +31,6 @@ without-first agent agents once =
     rw (eq-eqb agent agent refl)
     (filter-all (λ a. not (eqb agent a)) agents
     (λ a m. ap not (ne-eqb agent a (λ e. true≢false (sym (mem-elem m) ∙ sym (ap (λ x. elem x agents) e) ∙ absent)))))
-
--- zeros add nothing
-pub total-zeros : (l : List ℕ) (k : ℕ) → total (l ++ zeros k) ≡ total l
-total-zeros [] k = none k
-  where
-    none : (k : ℕ) → total (zeros k) ≡ 0
-    none zero = refl
-    none (suc k) = zero-add (total (zeros k)) ∙ none k
-total-zeros (x ∷ l) k = ap (λ s. x + s) (total-zeros l k)
 
 module _ (s : ℕ → ℕ → Bool) (agents : List ℕ) where
   -- the agents that wait

@@ -18,7 +18,7 @@ use Rattle.division.specs.Promise.{isDivision, bundlesIn, allAgents, sat
 use Rattle.division.proofs.Ratio.{termsFor-allowed}
 use Rattle.division.proofs.Profile.{profile-agree}
 use Rattle.division.proofs.Allocation.{length-allocation, allocation-sublist, served-each, holds-promised, item-in-one}
-use Rattle.division.proofs.Answers.{divisionByRounds, Within, answer-cases, never-share-above-total, answer-within-limits}
+use Rattle.division.proofs.Answers.{divisionByRounds, CountsWithin, answer-cases, never-share-above-total, answer-within-limits}
 use Rattle.division.proofs.Outcomes.{bundlesIn-divided}
 
 module _ (n m : ℕ) (table : List (List ℕ)) where
@@ -48,7 +48,7 @@ module _ (n m : ℕ) (table : List (List ℕ)) where
       bundlesIn-divided m few n (divisionByRounds n m table) (length-allocation n m (termsFor n) table) (allocation-sublist n m (termsFor n) table)
 
   -- what is promised of a division by the rounds
-  promised-divided : Within n m → Promised n m table (outcome (divided (divisionByRounds n m table)))
+  promised-divided : CountsWithin n m → Promised n m table (outcome (divided (divisionByRounds n m table)))
   promised-divided w =
       record {
         satisfied-iff-division = λ some. (λ _. refl, λ _. rw (divided-bundles (w .few-items)) all-satisfied);

@@ -1,29 +1,17 @@
 -- The waiting set, the free bundles and the matching depend on what suits whom only at the agents and bundles given. Assumes nothing.
 use mathlib.Core.Path.{_≡_, refl, ap, ap₂}
-use mathlib.Core.Bool.{Bool, not, cond, _&&_, _||_}
+use mathlib.Core.Bool.{Bool, not, _&&_}
 use mathlib.Core.List.{List, [], _∷_, List·Memᴰ as Mem, List·Memᴰ·head as here, List·Memᴰ·tail as there}
-use Prim.Native.Nat.{ℕ, _+_}
+use Prim.Native.Nat.{ℕ}
 use lib.Dec.{leb}
 use lib.ListN.{length}
-use Rattle.lists.specs.Lists.{bit, count, any, distinct}
-use Rattle.lists.specs.Dictionary.{listsOver, sublists, firstThat, firstBest}
-use Rattle.lists.proofs.Counting.{filter-cong, sublist-mem}
+use Rattle.lists.specs.Lists.{distinct}
+use Rattle.lists.specs.Dictionary.{listsOver, sublists, firstBest}
+use Rattle.lists.proofs.Counting.{sublist-mem}
+use Rattle.lists.proofs.Congruence.{filter-cong, any-cong, count-cong, firstThat-cong}
 use Rattle.lists.proofs.Sublists.{sublists-mem}
 use Rattle.lists.proofs.Listed.{listsOver-in}
 use Rattle.matching.specs.Matching.{wanted, tight, waitingSet, freeBundles, suited, matches, matching}
-
--- tests that agree on the members
-any-cong : {A : Type 0} (f g : A → Bool) (xs : List A) → ((x : A) → Mem x xs → f x ≡ g x) → any f xs ≡ any g xs
-any-cong f g [] same = refl
-any-cong f g (x ∷ xs) same = ap₂ _||_ (same x (here refl)) (any-cong f g xs (λ y m. same y (there m)))
-
-count-cong : {A : Type 0} (f g : A → Bool) (xs : List A) → ((x : A) → Mem x xs → f x ≡ g x) → count f xs ≡ count g xs
-count-cong f g [] same = refl
-count-cong f g (x ∷ xs) same = ap₂ (λ b n. bit b + n) (same x (here refl)) (count-cong f g xs (λ y m. same y (there m)))
-
-firstThat-cong : (p q : List ℕ → Bool) (ls : List (List ℕ)) → ((l : List ℕ) → Mem l ls → p l ≡ q l) → firstThat p ls ≡ firstThat q ls
-firstThat-cong p q [] same = refl
-firstThat-cong p q (l ∷ ls) same = ap₂ (λ b later. cond b l later) (same l (here refl)) (firstThat-cong p q ls (λ k m. same k (there m)))
 
 module _ (s t : ℕ → ℕ → Bool) where
   -- the same bundles suit the same agents

@@ -14,7 +14,7 @@ use denote.Shadow.{shadow}
 use Rattle.division.specs.Division as division
 use Rattle.division.specs.Outcome.{outcome}
 use Rattle.division.specs.declared.Answer.the-variants.{Refused, Divided}
-use Rattle.division.proofs.Answers.{Within, divisionByRounds, answer-cases}
+use Rattle.division.proofs.Answers.{CountsWithin, divisionByRounds, answer-cases}
 use Rattle.division.proofs.Marks.{marks-small}
 use Rattle.printing.specs.Printed.{printed}
 use Rattle.printing.specs.Printing.{refused, longestPrinted, fitted, printingOf, printing}
@@ -45,7 +45,7 @@ module _ (n m : ℕ) (table : List (List ℕ)) where
 
   -- a table within the limits whose division has the grade g
   pub record Accepted (g : ℕ) : Type 0 where
-    pub limits : Within n m
+    pub limits : CountsWithin n m
     pub by-rounds : division.answer n m table ≡ division.divided (divisionByRounds n m table)
     pub graded : g ≡ divisionByRounds n m table .grade
 

@@ -1,6 +1,5 @@
 -- Laws of lists that are gathered in an array, one entry after the other. Assumes nothing.
 use mathlib.Core.Path.{_≡_, refl, ap, _∙_}
-use mathlib.Core.Bool.{Bool, true, false}
 use mathlib.Core.List.{List, [], _∷_, _++_, append-nil}
 use Prim.Native.Nat.{ℕ, zero, suc, _+_, _<_}
 use native.Mathlib.Nat.{add-comm}
@@ -12,7 +11,8 @@ use lib.Seq.{take-suc-set}
 use borrow.Author.Tests.{eq-eqb, ne-eqb}
 use Rattle.lists.specs.Lists.{range, consIf}
 use Rattle.lists.proofs.Ranges.{range-append, length-range}
-use Rattle.division.specs.Round.{itemsIn, bundle}
+use Rattle.division.specs.Round.{bundle}
+use Rattle.division.proofs.BundleSets.{itemsIn-snoc}
 use Rattle.printing.specs.internal.Items.{Gathered, beforeZero}
 
 -- one entry more
@@ -26,17 +26,6 @@ gathered-more items count numbers k l room =
           ∙ take-suc-set numbers count k (omega (arith, l .places))
           ∙ ap (λ t. t ++ (k ∷ [])) (l .listed);
     }
-
--- one item more of a partition
-itemsIn-snoc : (t : ℕ → Bool) (ks : List ℕ) (k : ℕ) (l : List ℕ) → length ks < length l → itemsIn t (ks ++ (k ∷ [])) l ≡ itemsIn t ks l ++ consIf (t (getD l (length ks) 0)) k []
-itemsIn-snoc t ks k [] few = absurd (omega arith)
-itemsIn-snoc t [] k (c ∷ l) few = refl
-itemsIn-snoc t (j ∷ ks) k (c ∷ l) few = step (t c) (itemsIn-snoc t ks k l (omega arith))
-  where
-    step : (b : Bool) → itemsIn t (ks ++ (k ∷ [])) l ≡ itemsIn t ks l ++ consIf (t (getD l (length ks) 0)) k []
-        → consIf b j (itemsIn t (ks ++ (k ∷ [])) l) ≡ consIf b j (itemsIn t ks l) ++ consIf (t (getD l (length ks) 0)) k []
-    step true e = ap (λ r. j ∷ r) e
-    step false e = e
 
 module _ (c : ℕ) (partition : List ℕ) (i : ℕ) (more : i < length partition) where
   bundle-next : bundle (range 1 (i + 1)) partition c ≡ bundle (range 1 i) partition c ++ consIf (eqb c (getD partition i 0)) (i + 1) []

@@ -1,9 +1,7 @@
 -- Laws of texts of numbers. Assumes nothing.
-use mathlib.Core.Path.{_≡_, refl, sym, ap, _∙_}
+use mathlib.Core.Path.{_≡_, sym, ap, _∙_}
 use mathlib.Core.List.{List, [], _∷_, _++_, append-nil, append-assoc, flatMap}
 use Prim.Native.Nat.{ℕ, _+_}
-use native.Mathlib.Omega.{arith}
-use lib.ListN.{length}
 use Rattle.text.specs.Bytes.{bytes}
 use Rattle.text.specs.Decimal.{decimal, spacedNumbers}
 use Rattle.lists.specs.Lists.{range}
@@ -24,8 +22,3 @@ flatMap-snoc f (j ∷ ks) k = ap (λ t. f j ++ t) (flatMap-snoc f ks k) ∙ sym 
 
 pub flatMap-next : (f : ℕ → List ℕ) (i : ℕ) → flatMap f (range 1 (i + 1)) ≡ flatMap f (range 1 i) ++ f (i + 1)
 flatMap-next f i = ap (flatMap f) (range-next i) ∙ flatMap-snoc f (range 1 i) (i + 1)
-
--- a list without an entry
-pub empty : (l : List ℕ) → length l ≡ 0 → l ≡ []
-empty [] none = refl
-empty (k ∷ l) none = absurd (omega arith)

@@ -2,15 +2,15 @@
 use mathlib.Core.Path.{_≡_, refl, sym, ap, _∙_}
 use mathlib.Core.List.{List}
 use mathlib.Core.Option.{Option, none, some, Option·some-injective}
-use mathlib.Core.Bool.{Bool, true, false, cond, and-eq-true-iff}
+use mathlib.Core.Bool.{Bool, true, false, cond}
 use Prim.Native.Nat.{ℕ, _≤_}
 use lib.ListN.{length}
 use lib.Dec.{leb, ltb}
-use borrow.Author.Tests.{leb-true}
 use native.Mathlib.Omega.{arith}
 use Rattle.reading.specs.Tokens.{Token, tokens}
 use Rattle.reading.specs.Grammar.{head, yardLines, endLine}
 use Rattle.sheet.specs.Limits.{longestText, mostAgents, mostItems, within, blankTable}
+use Rattle.sheet.proofs.Limits.{within-bounds}
 use Rattle.reading.specs.Reading.{Reading, refused, sheet, require, allRowsFit, ofYardLines, ofHead, reading}
 use Rattle.reading.specs.Answers.{answerOf, tableOf}
 use Rattle.reading.specs.internal.Kept.{fitsAfter, storedAfter}
@@ -40,9 +40,6 @@ lines-answer yards pieces (some r) fit ts e =
     answer-require 7 (endLine (r .1)) _
     ∙ ap (λ x. cond (endLine (r .1)) x (Refused 7)) (answer-require 8 (allRowsFit (r .0)) _)
     ∙ ap (λ q. cond (endLine (q .1)) (cond (q .0) (Accepted (record { yards = yards; pieces = pieces })) (Refused 8)) (Refused 7)) (Option·some-injective _ _ e)
-
-pub within-most : (most n : ℕ) → within most n ≡ true → n ≤ most
-within-most most n e = leb-true n most (and-eq-true-iff (leb 1 n) (leb n most) .0 e .1)
 
 -- where the answer is no refusal, each test has passed
 passed : (s : Sheet) (n : ℕ) (test : Bool) (r : Reading) → answerOf (require n test r) ≡ Accepted s → (test ≡ true) × (answerOf r ≡ Accepted s)
@@ -92,10 +89,10 @@ module _ (s : Sheet) (text : List ℕ) (yards pieces : ℕ) (ts : List Token) (e
 
   -- the counts of an accepted text are within the limits, and its table is that of its yard lines
   pub accepted-yards : yards ≤ mostAgents
-  accepted-yards = within-most mostAgents yards (accepted .0)
+  accepted-yards = within-bounds mostAgents yards (accepted .0) .1
 
   pub accepted-pieces : pieces ≤ mostItems
-  accepted-pieces = within-most mostItems pieces (accepted .1)
+  accepted-pieces = within-bounds mostItems pieces (accepted .1) .1
 
   pub accepted-table : storedAfter 0 blankTable (yardLines 1 yards pieces ts) ≡ tableOf (reading text)
   accepted-table =

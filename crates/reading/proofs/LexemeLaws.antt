@@ -70,11 +70,12 @@ neither false false e = (refl, refl)
 word-byte : (p q : Bool) → p ≡ false → q ≡ false → not (p || q) ≡ true
 word-byte p q e f = rw (e, f)
 
-withByte-delimiter : (b : ℕ) (ls : List Lexeme) → eqb b space ≡ false → isDelimiter b ≡ true → withByte b ls ≡ singleton b ∷ ls
+-- a delimiter is a lexeme of its own; a word byte is put before what follows
+pub withByte-delimiter : (b : ℕ) (ls : List Lexeme) → isDelimiter b ≡ true → withByte b ls ≡ singleton b ∷ ls
 unfolding withByte
-withByte-delimiter b ls e m = rw (e, m)
+withByte-delimiter b ls e = rw (ne-eqb b space (λ s. false≢true (rw s at e)), e)
 
-withByte-word : (b : ℕ) (ls : List Lexeme) → isWordByte b ≡ true → withByte b ls ≡ prefixed b ls
+pub withByte-word : (b : ℕ) (ls : List Lexeme) → isWordByte b ≡ true → withByte b ls ≡ prefixed b ls
 unfolding withByte
 withByte-word b ls w = let n = neither (eqb b space) (isDelimiter b) w in rw (n .0, n .1)
 
@@ -114,15 +115,15 @@ word-lexeme (b ∷ bs) (suc n) ws e =
     withByte-word b (lexemes bs) (ws 0 (omega arith)) ∙ ap (prefixed b) (word-lexeme bs n (λ k h. ws (suc k) (suc-le-suc h)) e) ∙ joins b bs n (ws 1 (omega arith))
 
 -- the lexeme at a delimiter, and at a word
-pub delimiter-to : {s : List ℕ} {from : ℕ} → from < length s → eqb (getD s from lineFeed) space ≡ false → isDelimiter (getD s from 0) ≡ true
+pub delimiter-to : {s : List ℕ} {from : ℕ} → from < length s → isDelimiter (getD s from 0) ≡ true
     → LexemeTo s from (from + 1)
 unfolding lexemes withByte
-delimiter-to {s} {from} h n m =
+delimiter-to {s} {from} h m =
     let one : from + 1 - from ≡ 1 = omega arith in
     record {
       ordered = omega arith;
       inside = omega arith;
-      lexed = rw (one, drop-cons s from lineFeed, add-one) (withByte-delimiter _ _ n (test-inside isDelimiter s from true h m));
+      lexed = rw (one, drop-cons s from lineFeed, add-one) (withByte-delimiter _ _ (test-inside isDelimiter s from true h m));
     }
 
 pub word-to : {s : List ℕ} {from to : ℕ} → from < length s → eqb (getD s from lineFeed) space ≡ false → isDelimiter (getD s from 0) ≡ false

@@ -13,6 +13,7 @@ use Rattle.text.specs.Bytes.{bytes}
 use Rattle.reading.specs.Tokens.{lineFeed, tokens}
 use Rattle.reading.specs.Grammar.{form}
 use Rattle.sheet.specs.Limits.{mostAgents, mostItems, longestText, within}
+use Rattle.sheet.proofs.Limits.{within-bounds}
 use Rattle.reading.specs.Reading.{allRowsFit, fullTable, sheet, reading, ofHead, ofYardLines}
 use Rattle.reading.specs.StrictText.{headText, yardTexts, inUse, strictText}
 use Rattle.reading.specs.WithinLimits.{WithinLimits}
@@ -24,7 +25,7 @@ use Rattle.reading.proofs.SheetSpellingLaws.{spelt-sheetTokens}
 use Rattle.reading.proofs.ReaderInverseLaws.{head-inverse, yardLines-inverse, endLine-inverse}
 use Rattle.reading.proofs.TokensReadLaws.{head-headTokens, yardLines-yardsTokens, endLine-form}
 use Rattle.reading.proofs.InUseLaws.{inUse-fullTable, inUse-rows, inUse-places}
-use Rattle.reading.proofs.WithinLimitsLaws.{within-bounds, yards-bounds, pieces-bounds, rows-in-use, marks-in-use}
+use Rattle.reading.proofs.WithinLimitsLaws.{yards-bounds, pieces-bounds, rows-in-use, marks-in-use}
 use Rattle.reading.proofs.TextLengthLaws.{lines-length}
 use Rattle.reading.proofs.AcceptedLaws.{accepted}
 

@@ -5,10 +5,11 @@ use mathlib.Core.Bool.{Bool, true, false, not, cond, _&&_, _||_, and-eq-true-iff
 use Prim.Native.Nat.{ℕ, zero, suc}
 use lib.ListN.{replicate}
 use lib.Dec.{eqb}
-use borrow.Author.Tests.{eqb-true, eq-eqb, ne-eqb}
+use borrow.Author.Tests.{eqb-true, eq-eqb}
 use Rattle.lists.specs.Lists.{all}
 use Rattle.reading.specs.Tokens.{Token, Lexeme, singleton, lineFeed, space, opening, closing, firstByte, isDelimiter, isWordByte, gapDue, widen, continues, prefixed, withByte, lexemes, laidOut, tokensAfter}
 use Rattle.reading.specs.internal.SheetTokens.{written, spaced, spelt, isToken}
+use Rattle.reading.proofs.LexemeLaws.{withByte-delimiter, withByte-word}
 
 -- the bytes of the lexemes of a text are the text
 written-widen : (ls : List Lexeme) → written (widen ls) ≡ space ∷ written ls
@@ -81,14 +82,6 @@ pub word-byte : (b : ℕ) → isWordByte b ≡ true → WordByte b
 word-byte b e =
     let f = all-fail (eqb b space) (eqb b opening) (eqb b closing) (eqb b lineFeed) e in
     record { no-space = f .0; no-opening = f .1; no-closing = f .2; no-line-feed = f .3 }
-
-withByte-word : (b : ℕ) (ls : List Lexeme) → isWordByte b ≡ true → withByte b ls ≡ prefixed b ls
-unfolding withByte
-withByte-word b ls e = let w = word-byte b e in rw (w .no-space, w .no-opening, w .no-closing, w .no-line-feed)
-
-withByte-delimiter : (b : ℕ) (ls : List Lexeme) → isDelimiter b ≡ true → withByte b ls ≡ singleton b ∷ ls
-unfolding withByte
-withByte-delimiter b ls e = rw (ne-eqb b space (λ s. false≢true (rw s at e)), e)
 
 -- after a word no token stands without a space, but a closing bracket or a line feed
 no-gap-no-word : (p q s o : Bool) → (eqb (cond (p || q) 0 1) 0 && not (s || (o || p || q))) ≡ false

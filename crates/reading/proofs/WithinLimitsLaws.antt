@@ -2,20 +2,15 @@
 -- Assumes nothing.
 use mathlib.Core.Path.{_≡_, sym, ap, _∙_, subst}
 use mathlib.Core.List.{List}
-use mathlib.Core.Bool.{true, and-eq-true-iff}
 use Prim.Native.Nat.{ℕ, _≤_}
 use native.Mathlib.Omega.{arith}
 use lib.ListN.{length}
-use lib.Dec.{leb}
-use borrow.Author.Tests.{leb-true}
-use Rattle.sheet.specs.Limits.{mostAgents, mostItems, within}
+use Rattle.sheet.specs.Limits.{mostAgents, mostItems}
+use Rattle.sheet.proofs.Limits.{within-bounds}
 use Rattle.reading.specs.StrictText.{inUse}
 use Rattle.reading.specs.WithinLimits.{WithinLimits}
 use Rattle.reading.proofs.ShapeLaws.{AllOfLength}
 use Rattle.reading.proofs.InUseLaws.{inUse-rows, inUse-places, fullTable-rows, fullTable-places}
-
-pub within-bounds : (most n : ℕ) → within most n ≡ true → (1 ≤ n) × (n ≤ most)
-within-bounds most n e = let both = and-eq-true-iff (leb 1 n) (leb n most) .0 e in (leb-true 1 n (both .0), leb-true n most (both .1))
 
 module _ {yards pieces : ℕ} {table : List (List ℕ)} (w : WithinLimits yards pieces table) where
   pub yards-bounds : (1 ≤ yards) × (yards ≤ mostAgents)

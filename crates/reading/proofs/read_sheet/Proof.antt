@@ -10,7 +10,7 @@ use Rattle.reading.specs.Reading.{ofHead}
 use Rattle.reading.specs.internal.Results.{ReadsHead}
 use Rattle.reading.specs.declared.lines.Head.the-variants.{Counts}
 use Rattle.reading.proofs.FormLaws.{tokens-start}
-use Rattle.reading.proofs.AnswerLaws.{within-most}
+use Rattle.sheet.proofs.Limits.{within-bounds}
 use borrow.Author.Needs.{needs}
 use Rattle.reading.proofs.read_sheet.Statement.{statement}
 use Rattle.reading.proofs.read_sheet.Tie as tie
@@ -59,7 +59,7 @@ returns-3 c =
 
 read-lines-requires : tie.Need-read-lines-requires
 read-lines-requires c κs =
-    (head-read (c .before .before .before .before .before) .0, (within-most _ _ (yards-within (c .before .before)), within-most _ _ (pieces-within c)))
+    (head-read (c .before .before .before .before .before) .0, (within-bounds _ _ (yards-within (c .before .before)) .1, within-bounds _ _ (pieces-within c) .1))
 
 returns-4 : tie.Need-returns-4
 unfolding ofHead

@@ -6,13 +6,14 @@ use native.Mathlib.Omega.{arith}
 use lib.ListN.{length}
 use Rattle.lists.specs.Lists.{range, nth}
 use Rattle.lists.specs.Sums.{total}
+use Rattle.lists.proofs.Zeros.{total-zeros}
 use Rattle.sheet.specs.Limits.{mostAgents}
 use Rattle.matching.specs.Matching.{servedAgents, waitingSet, freeBundles, matching}
 use Rattle.division.specs.internal.Numbers.{numbered, fitsOf}
 use Rattle.division.specs.internal.Settling.{settledBy}
 use Rattle.division.proofs.Listing.{Lists, list-is, part-fits, part-count, part-within, part-few}
 use Rattle.division.proofs.SettledBy.{waits, serves, frees, chooses, waits-within, serves-within, serves-few, frees-within}
-use Rattle.division.proofs.SettledBy.{chooses-within, chooses-few, handed-fits, total-zeros, cutter-first, others-rest, rest-within, rest-few}
+use Rattle.division.proofs.SettledBy.{chooses-within, chooses-few, handed-fits, cutter-first, others-rest, rest-within, rest-few}
 use borrow.Author.Needs.{needs}
 use Rattle.division.proofs.settling.settle.Statement.{statement}
 use Rattle.division.proofs.settling.settle.Tie as tie

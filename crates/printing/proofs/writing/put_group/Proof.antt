@@ -1,9 +1,8 @@
 -- `writing::put_group` meets its contract. Assumes nothing.
 use native.Mathlib.Omega.{arith}
 use borrow.Author.Needs.{needs}
-use Rattle.lists.proofs.Passing.{first-and-rest}
+use Rattle.lists.proofs.Passing.{empty, first-and-rest}
 use Rattle.printing.proofs.Written.{_then_}
-use Rattle.printing.proofs.Texts.{empty}
 use Rattle.printing.proofs.writing.put_group.Statement.{statement}
 use Rattle.printing.proofs.writing.put_group.Tie as tie
 

@@ -22,7 +22,7 @@ word-end-requires c κs = search needs
 
 returns : tie.Need-returns
 returns c =
-    delimiter-to (c .before .before .before .before .pre .0) (c .before .before .before .before .pre .1) (sym (c .before .is-delimiter .ensures) ∙ c .if1 .taken)
+    delimiter-to (c .before .before .before .before .pre .0) (sym (c .before .is-delimiter .ensures) ∙ c .if1 .taken)
 
 returns-2 : tie.Need-returns-2
 returns-2 c =
