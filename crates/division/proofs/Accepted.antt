@@ -13,10 +13,10 @@ use Rattle.sheet.specs.Limits.{mostAgents, mostItems}
 use Rattle.sheet.specs.Sets.{items, setOf}
 use Rattle.cut.specs.Share.{maximinShare, maximinPartition}
 use Rattle.cut.specs.Outcome.{padded}
-use Rattle.division.specs.Ratio.{largestOdd, termsFor}
-use Rattle.division.specs.Valuations.{valuation, allValues, profile}
-use Rattle.division.specs.Grade.{grade}
-use Rattle.division.specs.Division.{divided, standardInstance, allRounds, allocation, divisionOf}
+use Rattle.rounds.specs.Ratio.{largestOdd, termsFor}
+use Rattle.rounds.specs.Valuations.{valuation, allValues, profile}
+use Rattle.rounds.specs.Grade.{grade}
+use Rattle.rounds.specs.Division.{divided, standardInstance, allRounds, allocation, divisionOf}
 use Rattle.division.specs.Outcome.{perAgent, outcome}
 use Rattle.division.specs.internal.Shares.{InUse, sharesFor, ownCuts}
 use Rattle.division.specs.internal.Suiting.{SmallShares}
@@ -26,10 +26,10 @@ use Rattle.division.specs.internal.Allocation.{allottedAll, Ready}
 use Rattle.division.specs.declared.Answer.the-variants.{Divided}
 use Rattle.division.specs.declared.Cut.{Cut}
 use Rattle.division.specs.declared.shares.OwnCuts.{OwnCuts}
-use Rattle.division.proofs.Ratio.{termsFor-allowed}
-use Rattle.division.proofs.Allocation.{sound, allocation-sublist}
+use Rattle.rounds.proofs.Ratio.{termsFor-allowed}
+use Rattle.rounds.proofs.Allocation.{sound, allocation-sublist}
 use Rattle.division.proofs.OwnShares.{nth-sharesFor}
-use Rattle.division.proofs.Profile.{nth-shares}
+use Rattle.rounds.proofs.Profile.{nth-shares}
 use Rattle.division.proofs.Grades.{grade-cong}
 use Rattle.division.proofs.Outcomes.{items-setOf-bundle}
 use Rattle.division.proofs.SameRounds.{rounds-standard}

@@ -17,14 +17,14 @@ use Rattle.lists.proofs.Zeros.{drop-zeros, getD-zeros}
 use Rattle.lists.proofs.Distinct.{mem-elem, elem-mem, not-mem-elem}
 use Rattle.sheet.specs.Limits.{mostAgents}
 use Rattle.sheet.specs.Sets.{setOf}
-use Rattle.division.specs.Round.{Instance, Round, suits, round, rounds, given, held}
+use Rattle.rounds.specs.Round.{Instance, Round, suits, round, rounds, given, held}
 use Rattle.division.specs.Outcome.{perAgent}
 use Rattle.division.specs.internal.Allocation.{withRound, allotted}
 use Rattle.division.specs.declared.dividing.Allocation.{Allocation}
-use Rattle.division.proofs.Held.{given-later, allSuit-length}
-use Rattle.division.proofs.Round.{waiting-sub, waiting-falls, served-parts, waiting-not-served, not-waiting-served}
-use Rattle.division.proofs.Invariant.{Sound, Left, left-all, served-distinct, round-suits, left-next}
-use Rattle.division.proofs.Profile.{nth-map-range}
+use Rattle.rounds.proofs.Held.{given-later, allSuit-length}
+use Rattle.rounds.proofs.Round.{waiting-sub, waiting-falls, served-parts, waiting-not-served, not-waiting-served}
+use Rattle.rounds.proofs.Invariant.{Sound, Left, left-all, served-distinct, round-suits, left-next}
+use Rattle.rounds.proofs.Profile.{nth-map-range}
 use Rattle.division.proofs.Places.{nth-next}
 use Rattle.division.proofs.Stored.{length-stored, stored-other, stored-given}
 

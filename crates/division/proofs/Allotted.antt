@@ -7,11 +7,11 @@ use lib.ListN.{length, set}
 use Rattle.lists.specs.Lists.{zeros}
 use Rattle.lists.proofs.Zeros.{getD-zeros, drop-zeros}
 use Rattle.sheet.specs.Sets.{setOf}
-use Rattle.division.specs.Round.{Instance, round, rounds}
+use Rattle.rounds.specs.Round.{Instance, round, rounds}
 use Rattle.division.specs.internal.Allocation.{stored, withRound, allotted}
 use Rattle.division.specs.declared.dividing.Allocation.{Allocation}
-use Rattle.division.proofs.Round.{waiting-falls}
-use Rattle.division.proofs.Rounds.{rounds-enough}
+use Rattle.rounds.proofs.Round.{waiting-falls}
+use Rattle.rounds.proofs.Rounds.{rounds-enough}
 
 -- zeros after the sets change nothing
 pub stored-zeros : (served sets : List ℕ) (k : ℕ) (places : List ℕ) → stored served (sets ++ zeros k) places ≡ stored served sets places

@@ -15,8 +15,8 @@ use Rattle.lists.proofs.Totals.{sumOver-cong}
 use Rattle.sheet.specs.Sets.{names, setOf}
 use Rattle.sheet.proofs.Items.{itemsUpTo, itemsUpTo-taken, itemsUpTo-left, setOf-append}
 use Rattle.sheet.proofs.Ranges.{setOf-below}
-use Rattle.division.specs.Round.{itemsIn, bundle}
-use Rattle.division.proofs.Bundles.{itemsIn-sublist, sumOver-handed}
+use Rattle.rounds.specs.Round.{itemsIn, bundle}
+use Rattle.rounds.proofs.Bundles.{itemsIn-sublist, sumOver-handed}
 
 -- one item more
 pub itemsIn-snoc : (t : ℕ → Bool) (ks : List ℕ) (k : ℕ) (l : List ℕ) → length ks < length l

@@ -8,10 +8,10 @@ use Rattle.lists.specs.Lists.{range, nth}
 use Rattle.lists.specs.Sums.{total}
 use Rattle.lists.proofs.Tests.{all-cong}
 use Rattle.sheet.specs.Sets.{items}
-use Rattle.division.specs.Valuations.{valuation, value, profile}
-use Rattle.division.specs.Grade.{envyFree, proportional, maximinFair, grade}
+use Rattle.rounds.specs.Valuations.{valuation, value, profile}
+use Rattle.rounds.specs.Grade.{envyFree, proportional, maximinFair, grade}
 use Rattle.division.specs.internal.Grading.{OfItems}
-use Rattle.division.proofs.Profile.{value-profile}
+use Rattle.rounds.proofs.Profile.{value-profile}
 
 module _ (n : ℕ) (rows rows′ : List (List ℕ)) (shares shares′ : List ℕ) (bundles bundles′ : List (List ℕ))
     (same-values : (i j : ℕ) → Mem i (range 1 n) → Mem j (range 1 n) → value (valuation rows i) (nth [] bundles j) ≡ value (valuation rows′ i) (nth [] bundles′ j)) where

@@ -11,7 +11,7 @@ use Rattle.sheet.specs.Limits.{mostAgents, mostItems}
 use Rattle.sheet.specs.Sets.{items, setOf}
 use Rattle.sheet.proofs.Sets.{items-setOf}
 use Rattle.sheet.proofs.Ranges.{range-sublist}
-use Rattle.division.specs.Division.{Division, divided}
+use Rattle.rounds.specs.Division.{Division, divided}
 use Rattle.division.specs.Outcome.{outcome}
 use Rattle.division.specs.Promise.{bundlesIn}
 

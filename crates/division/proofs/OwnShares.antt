@@ -10,13 +10,13 @@ use Rattle.lists.specs.Sums.{total}
 use Rattle.lists.proofs.Ranges.{length-range}
 use Rattle.lists.proofs.Tests.{any-map}
 use Rattle.cut.specs.Share.{maximinShare, maximinPartition}
-use Rattle.division.specs.Valuations.{valuation, allValues, profile, shareOf}
-use Rattle.division.specs.Division.{shareExceeds}
+use Rattle.rounds.specs.Valuations.{valuation, allValues, profile, shareOf}
+use Rattle.rounds.specs.Division.{shareExceeds}
 use Rattle.division.specs.Outcome.{perAgent, cutOf, blankCut}
 use Rattle.division.specs.internal.Shares.{sharesFor, ownCuts}
 use Rattle.division.specs.declared.Cut.{Cut}
 use Rattle.division.specs.declared.shares.OwnCuts.{OwnCuts}
-use Rattle.division.proofs.Profile.{nth-shares}
+use Rattle.rounds.proofs.Profile.{nth-shares}
 use Rattle.division.proofs.Padding.{nth-perAgent}
 
 module _ (n m : ℕ) (table : List (List ℕ)) where

@@ -16,17 +16,17 @@ use Rattle.sheet.specs.Valuations.{valueOf}
 use Rattle.cut.specs.Share.{maximinPartition}
 use Rattle.matching.specs.Matching.{servedAgents}
 use Rattle.matching.proofs.Congruence.{Agree}
-use Rattle.division.specs.Ratio.{Terms, termsFor}
-use Rattle.division.specs.Valuations.{valuation}
-use Rattle.division.specs.Round.{itemsIn, bundle, cutterOf, Round, Instance, suits, round, rounds}
-use Rattle.division.specs.Division.{standardInstance}
+use Rattle.rounds.specs.Ratio.{Terms, termsFor}
+use Rattle.rounds.specs.Valuations.{valuation}
+use Rattle.rounds.specs.Round.{itemsIn, bundle, cutterOf, Round, Instance, suits, round, rounds}
+use Rattle.rounds.specs.Division.{standardInstance}
 use Rattle.division.specs.internal.Shares.{sharesFor}
 use Rattle.division.specs.internal.Settling.{instanceFrom}
-use Rattle.division.proofs.Profile.{valueOf-profile, nth-shares}
+use Rattle.rounds.proofs.Profile.{valueOf-profile, nth-shares}
 use Rattle.division.proofs.OwnShares.{nth-sharesFor}
-use Rattle.division.proofs.Bundles.{itemsIn-sublist}
+use Rattle.rounds.proofs.Bundles.{itemsIn-sublist}
 use Rattle.division.proofs.SettledBy.{waits, chooses, waits-same, chooses-same}
-use Rattle.division.proofs.Round.{cutterOf-mem, cut, fits, waiting-sub, left-sub}
+use Rattle.rounds.proofs.Round.{cutterOf-mem, cut, fits, waiting-sub, left-sub}
 
 -- two instances that say the same of the agents and the items
 pub record Alike (G H : Instance) (agents items : List ℕ) : Type 0 where

@@ -19,7 +19,7 @@ use Rattle.matching.specs.Matching.{without, servedAgents, wanted, waitingSet, 
 use Rattle.matching.proofs.Serving.{waiting-sublist}
 use Rattle.matching.proofs.Congruence.{Agree, waitingSet-cong, freeBundles-cong, matching-cong}
 use Rattle.matching.proofs.Chosen.{chosen-distinct, chosen-free, chosen-few}
-use Rattle.division.specs.Round.{cutterOf}
+use Rattle.rounds.specs.Round.{cutterOf}
 use Rattle.division.specs.internal.Numbers.{numbered}
 use Rattle.division.specs.internal.Settling.{Remaining, Parts}
 use Rattle.lists.proofs.Passing.{first-and-rest, within-sublist}

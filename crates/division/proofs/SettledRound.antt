@@ -26,18 +26,18 @@ use Rattle.cut.proofs.Laws.{maximinPartition-within}
 use Rattle.matching.specs.Matching.{servedAgents}
 use Rattle.matching.proofs.Congruence.{Agree}
 use Rattle.matching.proofs.Chosen.{chosen-distinct}
-use Rattle.division.specs.Valuations.{valuation, value}
-use Rattle.division.specs.Round.{itemsIn, bundle, cutterOf, Instance, cutBy, round}
+use Rattle.rounds.specs.Valuations.{valuation, value}
+use Rattle.rounds.specs.Round.{itemsIn, bundle, cutterOf, Instance, cutBy, round}
 use Rattle.division.specs.internal.Numbers.{numbered, fitsOf}
 use Rattle.division.specs.internal.Sets.{bundleSets}
 use Rattle.division.specs.internal.Suiting.{fitsRow, fitsTable}
 use Rattle.division.specs.internal.Settling.{Remaining, Parts, instanceFrom, settled, settledBy}
 use Rattle.division.specs.declared.settling.Settled.{Settled}
-use Rattle.division.proofs.Bundles.{itemsIn-sublist}
+use Rattle.rounds.proofs.Bundles.{itemsIn-sublist}
 use Rattle.division.proofs.BundleSets.{itemsIn-append, setOf-handed}
 use Rattle.division.proofs.SettledBy.{serves, frees, chooses, waits-same, chooses-same, waits-within, serves-within, serves-few, chooses-within}
-use Rattle.division.proofs.Profile.{nth-map-range}
-use Rattle.division.proofs.Round as parts
+use Rattle.rounds.proofs.Profile.{nth-map-range}
+use Rattle.rounds.proofs.Round as parts
 
 module _ {agents : List ℕ} {set : ℕ} (left : Remaining agents set) (some : 1 ≤ length agents) (top bottom : ℕ) (table : List (List ℕ)) (shares : List ℕ) where
   abbrev G : Instance

@@ -11,7 +11,7 @@ use borrow.Author.Tests.{eq-eqb, ne-eqb, not-true}
 use Rattle.lists.specs.Lists.{elem, distinct, Within}
 use Rattle.lists.proofs.Cases.{eq-or-ne}
 use Rattle.sheet.specs.Sets.{setOf}
-use Rattle.division.specs.Round.{given}
+use Rattle.rounds.specs.Round.{given}
 use Rattle.division.specs.internal.Allocation.{stored}
 
 pub length-stored : (served sets places : List ℕ) → length (stored served sets places) ≡ length places

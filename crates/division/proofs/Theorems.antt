@@ -10,15 +10,16 @@ use Rattle.lists.specs.Lists.{range}
 use Rattle.lists.proofs.Ranges.{in-range, range-bounds, length-range}
 use Rattle.lists.proofs.Counting.{sublist-mem, filter-all}
 use Rattle.sheet.specs.Limits.{mostAgents, mostItems}
-use Rattle.division.specs.Ratio.{termsFor}
-use Rattle.division.specs.Round.{Round}
-use Rattle.division.specs.Division.{refused, divided, standardInstance, allRounds, allocation, divisionOf, answer}
+use Rattle.rounds.specs.Valuations.{AgreeInUse}
+use Rattle.rounds.specs.Ratio.{termsFor}
+use Rattle.rounds.specs.Round.{Round}
+use Rattle.rounds.specs.Division.{refused, divided, standardInstance, allRounds, allocation, divisionOf, answer}
 use Rattle.division.specs.Outcome.{outcome}
-use Rattle.division.specs.Promise.{isDivision, bundlesIn, allAgents, satisfiedAgents, Allocates, Promised, AgreeInUse}
-use Rattle.division.proofs.Ratio.{termsFor-allowed}
-use Rattle.division.proofs.Profile.{profile-agree}
-use Rattle.division.proofs.Allocation.{length-allocation, allocation-sublist, served-each, holds-promised, item-in-one}
-use Rattle.division.proofs.Answers.{divisionByRounds, CountsWithin, answer-cases, never-share-above-total, answer-within-limits}
+use Rattle.division.specs.Promise.{isDivision, bundlesIn, allAgents, satisfiedAgents, Allocates, Promised}
+use Rattle.rounds.proofs.Ratio.{termsFor-allowed}
+use Rattle.rounds.proofs.Profile.{profile-agree}
+use Rattle.rounds.proofs.Allocation.{length-allocation, allocation-sublist, served-each, holds-promised, item-in-one}
+use Rattle.rounds.proofs.Answers.{divisionByRounds, CountsWithin, answer-cases, never-share-above-total, answer-within-limits}
 use Rattle.division.proofs.Outcomes.{bundlesIn-divided}
 
 module _ (n m : ℕ) (table : List (List ℕ)) where

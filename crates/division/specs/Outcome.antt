@@ -6,7 +6,7 @@ use lib.ListN.{length, replicate}
 use Rattle.sheet.specs.Limits.{mostAgents}
 use Rattle.sheet.specs.Sets.{setOf}
 use Rattle.cut.specs.Outcome.{padded}
-use Rattle.division.specs.Division.{Answer, refused, divided}
+use Rattle.rounds.specs.Division.{Answer, refused, divided}
 use Rattle.division.specs.declared.Answer.the-variants.{Refused, Divided}
 use Rattle.division.specs.declared.Cut.{Cut}
 use Rattle.division.specs.declared.Outcome.{Outcome}

@@ -10,9 +10,8 @@ use lib.ListN.{length, take}
 use Rattle.lists.specs.Lists.{range, zeros, filter, nth, count, elem}
 use Rattle.sheet.specs.Limits.{mostAgents, mostItems}
 use Rattle.sheet.specs.Sets.{items}
-use Rattle.sheet.specs.Valuations.{valueOf}
-use Rattle.division.specs.Ratio.{largestOdd}
-use Rattle.division.specs.Valuations.{valuation, value, shareOf}
+use Rattle.rounds.specs.Ratio.{largestOdd}
+use Rattle.rounds.specs.Valuations.{valuation, value, shareOf}
 use Rattle.division.specs.declared.Answer.{Answer}
 use Rattle.division.specs.declared.Answer.the-variants.{Refused, Divided}
 use Rattle.division.specs.declared.Outcome.{Outcome}
@@ -58,7 +57,3 @@ pub record Promised (n m : ℕ) (table : List (List ℕ)) (r : Outcome) : Type 0
   pub within-limits-divided : 1 ≤ n → n ≤ mostAgents → 1 ≤ m → m ≤ mostItems → isDivision r ≡ true
   -- in every division each item is in exactly one bundle, and no bundle has any other item
   pub division-allocates : isDivision r ≡ true → Allocates n m (bundlesIn n r)
-
--- the tables have the same marks in the places in use
-abbrev pub AgreeInUse : ℕ → ℕ → List (List ℕ) → List (List ℕ) → Type 0
-AgreeInUse n m table table′ = (agent k : ℕ) → 1 ≤ agent → agent ≤ n → 1 ≤ k → k ≤ m → valueOf (valuation table agent) k ≡ valueOf (valuation table′ agent) k

@@ -2,7 +2,7 @@
 ghost use mathlib.Core.Path.{_≡_};
 ghost use Rattle.lists.specs.Lists.{range};
 ghost use Rattle.sheet.specs.Limits.{mostAgents};
-ghost use Rattle.division.specs.Division.{refused, divided, standardInstance, divisionOf, answer};
+ghost use Rattle.rounds.specs.Division.{refused, divided, standardInstance, divisionOf, answer};
 ghost use Rattle.division.specs.Outcome.{outcome};
 ghost use Rattle.division.specs.Promise.{Promised};
 ghost use Rattle.division.specs.internal.Shares.{InUse, ownCuts};

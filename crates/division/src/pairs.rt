@@ -3,7 +3,7 @@ ghost use mathlib.Core.Path.{_≡_};
 ghost use Prim.Native.Nat.{_≤_};
 ghost use Rattle.sheet.specs.Limits.{mostAgents};
 ghost use Rattle.division.specs.internal.Pairs.{pair};
-ghost use Rattle.division.specs.Ratio.{termsFor};
+ghost use Rattle.rounds.specs.Ratio.{termsFor};
 use sheet::Sheet;
 
 // A fraction.

@@ -8,7 +8,7 @@ ghost use Rattle.lists.specs.Lists.{nth, Within};
 ghost use Rattle.lists.specs.Sums.{total};
 ghost use Rattle.sheet.specs.Limits.{mostAgents, mostItems};
 ghost use Rattle.sheet.specs.Sets.{items, setOf};
-ghost use Rattle.division.specs.Round.{bundle};
+ghost use Rattle.rounds.specs.Round.{bundle};
 ghost use Rattle.division.specs.internal.Numbers.{numbered};
 ghost use Rattle.division.specs.internal.Sets.{bundleSets};
 use cut::Partition;

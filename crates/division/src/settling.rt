@@ -6,7 +6,7 @@ ghost use Rattle.sheet.specs.Sets.{items};
 ghost use Rattle.sheet.specs.Valuations.{valuesOf};
 ghost use Rattle.cut.specs.Share.{maximinPartition};
 ghost use Rattle.cut.specs.Outcome.{padded};
-ghost use Rattle.division.specs.Round.{round};
+ghost use Rattle.rounds.specs.Round.{round};
 ghost use Rattle.division.specs.internal.Numbers.{fitsOf};
 ghost use Rattle.division.specs.internal.Suiting.{SmallTerms, SmallShares};
 ghost use Rattle.division.specs.internal.Settling.{Remaining, Parts, KnownCut, KnownRound, instanceFrom, settled, settledBy};

@@ -3,7 +3,7 @@ ghost use mathlib.Core.Path.{_≡_};
 ghost use Prim.Native.Nat.{_*_, _≤_};
 ghost use lib.Dec.{leb};
 ghost use Rattle.sheet.specs.Sets.{items};
-ghost use Rattle.division.specs.Valuations.{valuation, value};
+ghost use Rattle.rounds.specs.Valuations.{valuation, value};
 ghost use Rattle.division.specs.internal.Suiting.{greatestValue, SmallTerms, SmallShares, fitsRow, fitsTable};
 use crate::serving::Fits;
 use crate::sets::Sets;

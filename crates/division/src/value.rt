@@ -2,7 +2,7 @@
 ghost use mathlib.Core.Path.{_≡_};
 ghost use Prim.Native.Nat.{_≤_, _<_, _^_};
 ghost use Rattle.sheet.specs.Sets.{items};
-ghost use Rattle.division.specs.Valuations.{value};
+ghost use Rattle.rounds.specs.Valuations.{value};
 use sheet::Row;
 use sheet::Sheet;
 

@@ -2,7 +2,7 @@
 use mathlib.Core.Path.{_≡_, refl}
 use mathlib.Core.List.{List}
 use Prim.Native.Nat.{ℕ}
-use Rattle.division.specs.Division.{Answer, refused, divided}
+use Rattle.rounds.specs.Division.{Answer, refused, divided}
 use Rattle.division.specs.Outcome.{outcome}
 use Rattle.division.specs.declared.Answer.the-variants.{Refused, Divided}
 use Rattle.division_c.specs.Lent.{numberOf, gradeAfter, bundlesAfter, cuttersAfter}

@@ -2,7 +2,7 @@
 use mathlib.Core.List.{List, map}
 use Prim.Native.Nat.{ℕ}
 use Rattle.sheet.specs.Sets.{setOf}
-use Rattle.division.specs.Division.{Answer, refused, divided}
+use Rattle.rounds.specs.Division.{Answer, refused, divided}
 use Rattle.division.specs.Outcome.{perAgent}
 
 -- 0, or the number of the refusal

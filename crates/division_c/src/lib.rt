@@ -1,6 +1,6 @@
 // Dividing a table for callers in C or Rust, by C's calling convention.
 ghost use mathlib.Core.Path.{_≡_};
-ghost use Rattle.division.specs.Division.{answer};
+ghost use Rattle.rounds.specs.Division.{answer};
 ghost use Rattle.division_c.specs.Lent.{numberOf, gradeAfter, bundlesAfter, cuttersAfter};
 use division::Answer;
 use sheet::Sheet;

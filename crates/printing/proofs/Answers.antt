@@ -11,10 +11,10 @@ use denote.Laws.{Is}
 use denote.Plain.{UInt}
 use denote.Array.{Array, each}
 use denote.Shadow.{shadow}
-use Rattle.division.specs.Division as division
+use Rattle.rounds.specs.Division as division
 use Rattle.division.specs.Outcome.{outcome}
 use Rattle.division.specs.declared.Answer.the-variants.{Refused, Divided}
-use Rattle.division.proofs.Answers.{CountsWithin, divisionByRounds, answer-cases}
+use Rattle.rounds.proofs.Answers.{CountsWithin, divisionByRounds, answer-cases}
 use Rattle.division.proofs.Marks.{marks-small}
 use Rattle.printing.specs.Printed.{printed}
 use Rattle.printing.specs.Printing.{refused, longestPrinted, fitted, printingOf, printing}

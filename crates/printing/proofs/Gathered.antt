@@ -11,7 +11,7 @@ use lib.Seq.{take-suc-set}
 use borrow.Author.Tests.{eq-eqb, ne-eqb}
 use Rattle.lists.specs.Lists.{range, consIf}
 use Rattle.lists.proofs.Ranges.{range-append, length-range}
-use Rattle.division.specs.Round.{bundle}
+use Rattle.rounds.specs.Round.{bundle}
 use Rattle.division.proofs.BundleSets.{itemsIn-snoc}
 use Rattle.printing.specs.internal.Items.{Gathered, beforeZero}
 

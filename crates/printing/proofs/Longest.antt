@@ -18,12 +18,12 @@ use Rattle.text.proofs.Decimal.{decimal-length}
 use Rattle.sheet.specs.Limits.{mostAgents, mostItems, greatestMark}
 use Rattle.sheet.specs.Valuations.{valueOf}
 use Rattle.cut.proofs.Laws.{shares-le-total}
-use Rattle.division.specs.Valuations.{valuation, value, allValues, shareOf}
-use Rattle.division.specs.Round.{bundle}
-use Rattle.division.specs.Division.{Division, divisionOf}
-use Rattle.division.proofs.Answers.{divisionByRounds, answer-within-limits}
-use Rattle.division.proofs.Profile.{nth-shares}
-use Rattle.division.proofs.Bundles.{sumOver-handed}
+use Rattle.rounds.specs.Valuations.{valuation, value, allValues, shareOf}
+use Rattle.rounds.specs.Round.{bundle}
+use Rattle.rounds.specs.Division.{Division, divisionOf}
+use Rattle.rounds.proofs.Answers.{divisionByRounds, answer-within-limits}
+use Rattle.rounds.proofs.Profile.{nth-shares}
+use Rattle.rounds.proofs.Bundles.{sumOver-handed}
 use Rattle.printing.specs.Printed.{group, headLine, pileGroup, amounts, cutBundle, cutGroup, yardLine, cuttersLine, allLines, agentLine, printed}
 use Rattle.printing.specs.Printing.{text, printing, longestPrinted}
 use Rattle.printing.proofs.Printable.{Printable, divisionByRounds-printable}

@@ -12,7 +12,7 @@ use Rattle.sheet.specs.Limits.{mostAgents, mostItems}
 use Rattle.sheet.specs.Sets.{items, setOf}
 use Rattle.text.specs.Bytes.{bytes}
 use Rattle.cut.specs.Outcome.{padded}
-use Rattle.division.specs.Division.{Division, divided}
+use Rattle.rounds.specs.Division.{Division, divided}
 use Rattle.division.specs.Outcome.{perAgent, cutOf, blankCut, outcome}
 use Rattle.division.specs.declared.Cut.{Cut}
 use Rattle.division.proofs.BundleSets.{itemsIn-append}

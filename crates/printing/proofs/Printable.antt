@@ -13,16 +13,16 @@ use Rattle.lists.proofs.Counting.{sublist-mem}
 use Rattle.sheet.specs.Valuations.{valueOf}
 use Rattle.cut.specs.Share.{maximinShare, maximinPartition}
 use Rattle.cut.proofs.Laws.{maximinPartition-within}
-use Rattle.division.specs.Ratio.{termsFor}
-use Rattle.division.specs.Valuations.{valuation, allValues, profile}
-use Rattle.division.specs.Round.{Instance, Round, round, rounds, held}
-use Rattle.division.specs.Grade.{envyFree, proportional, maximinFair, grade}
-use Rattle.division.specs.Division.{Division, standardInstance, allRounds, allocation, divisionOf}
-use Rattle.division.proofs.Profile.{nth-map-range}
-use Rattle.division.proofs.Round.{cutterOf-mem, waiting-sub}
-use Rattle.division.proofs.Rounds.{held-sublist}
-use Rattle.division.proofs.Allocation.{length-allocation}
-use Rattle.division.proofs.Answers.{divisionByRounds}
+use Rattle.rounds.specs.Ratio.{termsFor}
+use Rattle.rounds.specs.Valuations.{valuation, allValues, profile}
+use Rattle.rounds.specs.Round.{Instance, Round, round, rounds, held}
+use Rattle.rounds.specs.Grade.{envyFree, proportional, maximinFair, grade}
+use Rattle.rounds.specs.Division.{Division, standardInstance, allRounds, allocation, divisionOf}
+use Rattle.rounds.proofs.Profile.{nth-map-range}
+use Rattle.rounds.proofs.Round.{cutterOf-mem, waiting-sub}
+use Rattle.rounds.proofs.Rounds.{held-sublist}
+use Rattle.rounds.proofs.Allocation.{length-allocation}
+use Rattle.rounds.proofs.Answers.{divisionByRounds}
 
 -- an entry for each of n agents, bundles and cuts of the items 1 .. m, cutters among the agents
 pub record Printable (n m : ℕ) (d : Division) : Type 0 where

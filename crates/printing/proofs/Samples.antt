@@ -5,8 +5,8 @@ use mathlib.Core.List.{List, [], _∷_, _++_, map, flatMap}
 use Prim.Native.Nat.{ℕ}
 use Rattle.text.specs.Bytes.{bytes}
 use Rattle.text.specs.Decimal.{digitsIn, decimal, spacedNumbers}
-use Rattle.division.specs.Division.{divided, answer}
-use Rattle.division.proofs.Samples.{samples, samples-hold}
+use Rattle.rounds.specs.Division.{divided, answer}
+use Rattle.rounds.proofs.Samples.{samples, samples-hold}
 use Rattle.printing.specs.Printed.{headLine, pileGroup, amounts, cutGroup, yardLine, cuttersLine, allLines, printed}
 use Rattle.printing.specs.Printing.{text, printing, printingOf}
 

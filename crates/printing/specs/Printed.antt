@@ -5,9 +5,9 @@ use Prim.Native.String.{String}
 use Rattle.lists.specs.Lists.{range, nth}
 use Rattle.text.specs.Bytes.{bytes}
 use Rattle.text.specs.Decimal.{decimal, spacedNumbers}
-use Rattle.division.specs.Valuations.{valuation, value}
-use Rattle.division.specs.Round.{bundle}
-use Rattle.division.specs.Division.{Division}
+use Rattle.rounds.specs.Valuations.{valuation, value}
+use Rattle.rounds.specs.Round.{bundle}
+use Rattle.rounds.specs.Division.{Division}
 
 -- a text and a number behind it
 abbrev pub field : String → ℕ → List ℕ

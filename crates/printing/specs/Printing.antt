@@ -4,7 +4,7 @@ use mathlib.Core.List.{List}
 use Prim.Native.Nat.{ℕ}
 use lib.Dec.{ltb}
 use lib.ListN.{length}
-use Rattle.division.specs.Division as division
+use Rattle.rounds.specs.Division as division
 use Rattle.printing.specs.Printed.{printed}
 use Rattle.printing.specs.Filled.{filled}
 use Rattle.printing.specs.declared.Answer as declared

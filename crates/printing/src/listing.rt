@@ -5,7 +5,7 @@ ghost use lib.ListN.{take};
 ghost use Rattle.lists.specs.Lists.{range};
 ghost use Rattle.sheet.specs.Limits.{mostAgents, mostItems};
 ghost use Rattle.sheet.specs.Sets.{items};
-ghost use Rattle.division.specs.Round.{bundle};
+ghost use Rattle.rounds.specs.Round.{bundle};
 ghost use Rattle.printing.specs.internal.Items.{Gathered, beforeZero};
 use cut::Partition;
 use sheet::Sheet;

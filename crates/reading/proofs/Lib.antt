@@ -10,15 +10,3 @@ pub mod ShapeLaws
 pub mod TableLaws
 pub mod AnswerLaws
 pub mod Samples
-pub mod DecimalLaws
-pub mod SpellingLaws
-pub mod SheetTokenLaws
-pub mod SheetSpellingLaws
-pub mod ReaderInverseLaws
-pub mod TokensReadLaws
-pub mod InUseLaws
-pub mod WithinLimitsLaws
-pub mod TextLengthLaws
-pub mod AcceptedLaws
-pub mod RoundTrip
-pub mod StrictTextSamples

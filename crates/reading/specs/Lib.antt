@@ -4,6 +4,4 @@ pub mod Tokens
 pub mod Grammar
 pub mod Reading
 pub mod Answers
-pub mod StrictText
-pub mod WithinLimits
 pub mod internal

@@ -2,4 +2,3 @@
 pub mod Places
 pub mod Kept
 pub mod Results
-pub mod SheetTokens

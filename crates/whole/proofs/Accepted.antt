@@ -12,11 +12,11 @@ use Rattle.lists.proofs.Zeros.{getD-zeros}
 use Rattle.sheet.specs.Limits.{mostAgents, mostItems, greatestMark, blankRow}
 use Rattle.sheet.specs.Valuations.{valueOf}
 use Rattle.reading.specs.Reading.{reading, sheet, allFit, allRowsFit, fullRow, fullTable}
-use Rattle.reading.specs.StrictText.{inUse}
-use Rattle.reading.proofs.RoundTrip.{reading-withinLimits}
-use Rattle.reading.proofs.WithinLimitsLaws.{yards-bounds, pieces-bounds}
-use Rattle.division.specs.Valuations.{valuation}
-use Rattle.division.proofs.Answers.{divisionByRounds}
+use Rattle.strict_text.specs.StrictText.{inUse}
+use Rattle.strict_text.proofs.RoundTrip.{reading-withinLimits}
+use Rattle.strict_text.proofs.WithinLimits.{yards-bounds, pieces-bounds}
+use Rattle.rounds.specs.Valuations.{valuation}
+use Rattle.rounds.proofs.Answers.{divisionByRounds}
 use Rattle.printing.specs.Printed.{printed}
 use Rattle.printing.specs.Printing as printing
 use Rattle.printing.proofs.Longest.{printing-within-limits}

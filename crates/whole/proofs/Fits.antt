@@ -8,7 +8,7 @@ use lib.Dec.{ltb}
 use lib.ListN.{length, take, drop, length-append, length-take}
 use borrow.Author.Tests.{ltb-false}
 use Rattle.reading.specs.Reading as reading
-use Rattle.division.specs.Division as division
+use Rattle.rounds.specs.Division as division
 use Rattle.printing.specs.Printed.{printed}
 use Rattle.printing.specs.Printing.{Printing, refused, text, fitted, printingOf, printing, answered, bufferAfter}
 use Rattle.printing.specs.declared.Answer.{Answer}

@@ -8,11 +8,11 @@ use Rattle.reading.specs.Grammar as grammar
 use Rattle.reading.specs.Reading.{reading, ofHead, ofYardLines, fullTable, allRowsFit, allFit}
 use Rattle.cut.specs.Share.{maximinShare, maximinPartition}
 use Rattle.matching.specs.Matching.{waitingSet, matching}
-use Rattle.division.specs.Ratio.{largestOdd, termsFor}
-use Rattle.division.specs.Valuations.{profile}
-use Rattle.division.specs.Round.{round, rounds, held}
-use Rattle.division.specs.Grade.{envyFree, proportional, maximinFair, grade}
-use Rattle.division.specs.Division.{divisionOf, shareExceeds, answer}
+use Rattle.rounds.specs.Ratio.{largestOdd, termsFor}
+use Rattle.rounds.specs.Valuations.{profile}
+use Rattle.rounds.specs.Round.{round, rounds, held}
+use Rattle.rounds.specs.Grade.{envyFree, proportional, maximinFair, grade}
+use Rattle.rounds.specs.Division.{divisionOf, shareExceeds, answer}
 use Rattle.printing.specs.Printed.{headLine, pileGroup, amounts, cutGroup, yardLine, cuttersLine, allLines, printed}
 use Rattle.printing.specs.Printing.{text, printing, longestPrinted}
 use Rattle.whole.specs.ShareOut.{shareOut}

@@ -7,11 +7,11 @@ use native.Mathlib.Omega.{arith}
 use borrow.Author.Needs.{needs}
 use Rattle.sheet.specs.Limits.{mostAgents, mostItems}
 use Rattle.sheet.proofs.Limits.{within-low, within-high, within-both}
-use Rattle.division.specs.Division.{Answer, answer}
+use Rattle.rounds.specs.Division.{Answer, answer}
 use Rattle.division.specs.Outcome.{outcome}
 use Rattle.division.specs.Promise.{Promised}
 use Rattle.division.specs.declared.Outcome.{Outcome}
-use Rattle.division.proofs.Answers.{answer-agents-outside, answer-items-outside, answer-share-exceeds, answer-divided}
+use Rattle.rounds.proofs.Answers.{answer-agents-outside, answer-items-outside, answer-share-exceeds, answer-divided}
 use Rattle.division.proofs.Theorems.{promised}
 use Rattle.division.proofs.divide.Statement.{statement}
 use Rattle.division.proofs.divide.Tie as tie

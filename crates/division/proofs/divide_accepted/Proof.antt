@@ -10,7 +10,7 @@ use Rattle.lists.specs.Lists.{range}
 use Rattle.lists.proofs.Ranges.{length-range}
 use Rattle.sheet.specs.Limits.{mostAgents}
 use Rattle.sheet.specs.Sets.{items}
-use Rattle.division.specs.Ratio.{termsFor}
+use Rattle.rounds.specs.Ratio.{termsFor}
 use Rattle.division.specs.internal.Pairs.{pair}
 use Rattle.division.specs.internal.Shares.{sharesFor}
 use Rattle.division.specs.internal.Settling.{instanceFrom}

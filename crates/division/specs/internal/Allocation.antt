@@ -4,7 +4,7 @@ use Prim.Native.Nat.{ℕ, _+_, _-_, _≤_}
 use lib.ListN.{length, getD, drop, set}
 use Rattle.sheet.specs.Limits.{mostAgents}
 use Rattle.sheet.specs.Sets.{setOf}
-use Rattle.division.specs.Round.{Instance, Round, rounds}
+use Rattle.rounds.specs.Round.{Instance, Round, rounds}
 use Rattle.division.specs.internal.Suiting.{SmallTerms, SmallShares}
 use Rattle.division.specs.internal.Settling.{Remaining}
 use Rattle.division.specs.declared.dividing.Allocation.{Allocation}

@@ -7,7 +7,7 @@ use lib.Dec.{leb}
 use lib.ListN.{getD}
 use Rattle.lists.specs.Lists.{range, nth, all}
 use Rattle.sheet.specs.Sets.{items}
-use Rattle.division.specs.Valuations.{value}
+use Rattle.rounds.specs.Valuations.{value}
 
 -- each set has items of 1 .. m only
 abbrev pub OfItems : ℕ → List ℕ → Type 0

@@ -1,5 +1,5 @@
 -- A fraction as the code keeps it. Assumes nothing: these are definitions.
-use Rattle.division.specs.Ratio.{Terms}
+use Rattle.rounds.specs.Ratio.{Terms}
 use Rattle.division.specs.declared.pairs.Ratio.{Ratio}
 
 abbrev pub pair : Terms → Ratio

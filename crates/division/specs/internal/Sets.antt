@@ -4,7 +4,7 @@ use Prim.Native.Nat.{ℕ}
 use Rattle.lists.specs.Lists.{range}
 use Rattle.sheet.specs.Limits.{mostAgents}
 use Rattle.sheet.specs.Sets.{items, setOf}
-use Rattle.division.specs.Round.{bundle}
+use Rattle.rounds.specs.Round.{bundle}
 
 -- the set of each bundle of a partition of the items of the set
 unfoldable pub bundleSets : ℕ → List ℕ → List ℕ

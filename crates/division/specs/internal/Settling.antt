@@ -13,8 +13,8 @@ use Rattle.sheet.specs.Valuations.{valueOf}
 use Rattle.cut.specs.Share.{maximinPartition}
 use Rattle.cut.specs.Outcome.{padded}
 use Rattle.matching.specs.Matching.{without, servedAgents, waitingSet, freeBundles, matching}
-use Rattle.division.specs.Valuations.{valuation}
-use Rattle.division.specs.Round.{Round, Instance, cutterOf}
+use Rattle.rounds.specs.Valuations.{valuation}
+use Rattle.rounds.specs.Round.{Round, Instance, cutterOf}
 use Rattle.division.specs.internal.Numbers.{numbered}
 use Rattle.division.specs.declared.settling.Settled.{Settled}
 

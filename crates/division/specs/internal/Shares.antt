@@ -3,7 +3,7 @@ use mathlib.Core.List.{List, map}
 use Prim.Native.Nat.{ℕ, _≤_}
 use Rattle.sheet.specs.Limits.{mostAgents, mostItems}
 use Rattle.cut.specs.Share.{maximinShare, maximinPartition}
-use Rattle.division.specs.Valuations.{profile}
+use Rattle.rounds.specs.Valuations.{profile}
 use Rattle.division.specs.Outcome.{perAgent, cutOf, blankCut}
 use Rattle.division.specs.declared.shares.OwnCut.{OwnCut}
 use Rattle.division.specs.declared.shares.OwnCuts.{OwnCuts}

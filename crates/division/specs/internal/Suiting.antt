@@ -7,7 +7,7 @@ use lib.ListN.{getD}
 use Rattle.lists.specs.Lists.{range, nth}
 use Rattle.sheet.specs.Limits.{mostAgents}
 use Rattle.sheet.specs.Sets.{items}
-use Rattle.division.specs.Valuations.{valuation, value}
+use Rattle.rounds.specs.Valuations.{valuation, value}
 
 -- no value of a set of items is greater: twelve marks of 32 bits sum to less
 abbrev pub greatestValue : ℕ

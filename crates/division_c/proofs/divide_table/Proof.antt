@@ -1,7 +1,7 @@
 -- `division_c::divide_table` meets its contract, by what `division::divide` ensures and the case of its answer. Assumes nothing.
 use mathlib.Core.Path.{sym, ap, _∙_}
 use borrow.Author.Needs.{needs}
-use Rattle.division.specs.Division.{answer}
+use Rattle.rounds.specs.Division.{answer}
 use Rattle.division_c.proofs.Lent.{lent-refused, lent-divided}
 use Rattle.division_c.proofs.divide_table.Statement.{statement}
 use Rattle.division_c.proofs.divide_table.Tie as tie

@@ -4,7 +4,7 @@ use mathlib.Core.List.{List, []}
 use Prim.Native.Nat.{ℕ}
 use Rattle.lists.specs.Lists.{nth}
 use Rattle.sheet.specs.Sets.{items}
-use Rattle.division.specs.Valuations.{valuation}
+use Rattle.rounds.specs.Valuations.{valuation}
 use Rattle.division.specs.declared.Cut.{Cut}
 use Rattle.division.specs.declared.Outcome.{Outcome}
 use Rattle.printing.specs.internal.Items.{beforeZero}

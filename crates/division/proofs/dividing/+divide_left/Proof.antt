@@ -6,12 +6,12 @@ use native.Mathlib.Omega.{arith}
 use lib.ListN.{length, set}
 use Rattle.sheet.specs.Limits.{mostAgents}
 use Rattle.sheet.specs.Sets.{items, setOf}
-use Rattle.division.specs.Round.{Instance, Round, round}
+use Rattle.rounds.specs.Round.{Instance, Round, round}
 use Rattle.division.specs.internal.Settling.{instanceFrom}
 use Rattle.division.specs.internal.Allocation.{withRound, allottedAll}
 use Rattle.division.specs.declared.dividing.Allocation.{Allocation}
 use Rattle.division.proofs.Listing.{Lists, list-is, part-fits, part-count, part-within, part-few}
-use Rattle.division.proofs.Round.{waiting-falls}
+use Rattle.rounds.proofs.Round.{waiting-falls}
 use Rattle.division.proofs.SettledRound.{remaining-next, items-left, served-within, served-few}
 use Rattle.division.proofs.Allotted.{stored-zeros, allotted-none, allotted-next}
 use borrow.Fn.Kinds.{In}

@@ -9,7 +9,7 @@ use borrow.Author.Tests.{le-leb, lt-leb}
 use Rattle.sheet.specs.Sets.{items}
 use Rattle.lists.specs.Lists.{nth}
 use Rattle.lists.proofs.Tests.{all-next, all-fails}
-use Rattle.division.specs.Valuations.{value}
+use Rattle.rounds.specs.Valuations.{value}
 use Rattle.division.specs.internal.Grading.{enviesNone}
 use Rattle.division.proofs.Places.{nth-items}
 use Rattle.division.proofs.grading.envies_none.Statement.{statement}

@@ -3,8 +3,8 @@ use mathlib.Core.Path.{_≡_, refl, sym, _∙_}
 use mathlib.Core.List.{[], map}
 use borrow.Author.Needs.{needs}
 use Rattle.sheet.specs.Sets.{items}
-use Rattle.division.specs.Valuations.{profile}
-use Rattle.division.specs.Grade.{envyFree, proportional, maximinFair, grade}
+use Rattle.rounds.specs.Valuations.{profile}
+use Rattle.rounds.specs.Grade.{envyFree, proportional, maximinFair, grade}
 use Rattle.division.proofs.Grades.{envyFree-cong, maximinFair-cong, profile-values}
 use Rattle.division.proofs.grading.grade_of.Statement.{statement}
 use Rattle.division.proofs.grading.grade_of.Tie as tie

@@ -7,8 +7,8 @@ use lib.ListN.{getD}
 use Rattle.lists.specs.Lists.{range, nth, all}
 use Rattle.lists.proofs.Tests.{all-next, all-fails}
 use Rattle.sheet.specs.Sets.{items}
-use Rattle.division.specs.Valuations.{valuation, value}
-use Rattle.division.specs.Grade.{envyFree}
+use Rattle.rounds.specs.Valuations.{valuation, value}
+use Rattle.rounds.specs.Grade.{envyFree}
 use Rattle.division.specs.internal.Grading.{enviesNone}
 use Rattle.division.proofs.Places.{nth-next, nth-items}
 use native.Mathlib.Omega.{arith}

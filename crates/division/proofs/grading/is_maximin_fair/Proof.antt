@@ -9,8 +9,8 @@ use borrow.Author.Tests.{le-leb, lt-leb}
 use Rattle.lists.specs.Lists.{range, nth, all}
 use Rattle.lists.proofs.Tests.{all-next, all-fails}
 use Rattle.sheet.specs.Sets.{items}
-use Rattle.division.specs.Valuations.{valuation, value}
-use Rattle.division.specs.Grade.{maximinFair}
+use Rattle.rounds.specs.Valuations.{valuation, value}
+use Rattle.rounds.specs.Grade.{maximinFair}
 use Rattle.division.proofs.Places.{nth-next, nth-items}
 use native.Mathlib.Omega.{arith}
 use borrow.Author.Needs.{needs}

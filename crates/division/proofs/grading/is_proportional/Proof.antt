@@ -10,10 +10,10 @@ use Rattle.lists.specs.Lists.{range, nth, all}
 use Rattle.lists.specs.Sums.{total}
 use Rattle.lists.proofs.Tests.{all-next, all-fails}
 use Rattle.sheet.specs.Sets.{items}
-use Rattle.division.specs.Valuations.{valuation, value, profile}
-use Rattle.division.specs.Grade.{proportional}
+use Rattle.rounds.specs.Valuations.{valuation, value, profile}
+use Rattle.rounds.specs.Grade.{proportional}
 use Rattle.lists.proofs.Ranges.{in-range}
-use Rattle.division.proofs.Profile.{valuation-profile, value-profile}
+use Rattle.rounds.proofs.Profile.{valuation-profile, value-profile}
 use Rattle.division.proofs.Places.{nth-next, nth-items}
 use native.Mathlib.Omega.{arith}
 use borrow.Author.Needs.{needs}

@@ -8,9 +8,9 @@ use borrow.Author.Needs.{needs}
 use Rattle.lists.specs.Lists.{range, nth}
 use Rattle.lists.proofs.Ranges.{in-range}
 use Rattle.sheet.specs.Limits.{mostAgents}
-use Rattle.division.specs.Ratio.{largestOdd, termsFor}
+use Rattle.rounds.specs.Ratio.{largestOdd, termsFor}
 use Rattle.division.specs.declared.pairs.Ratio.{Ratio}
-use Rattle.division.proofs.Profile.{nth-map-range}
+use Rattle.rounds.proofs.Profile.{nth-map-range}
 use Rattle.division.proofs.pairs.ratio_for.Statement.{statement}
 use Rattle.division.proofs.pairs.ratio_for.Tie as tie
 

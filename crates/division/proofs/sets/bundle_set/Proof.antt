@@ -16,7 +16,7 @@ use Rattle.sheet.specs.Limits.{mostItems}
 use Rattle.sheet.proofs.Sets.{halved}
 use Rattle.sheet.specs.Sets.{setOf}
 use Rattle.sheet.proofs.Items.{itemsUpTo, itemsUpTo-taken, itemsUpTo-left, itemsUpTo-all}
-use Rattle.division.specs.Round.{bundle}
+use Rattle.rounds.specs.Round.{bundle}
 use Rattle.division.proofs.BundleSets.{foundUpTo, found-below, found-taken, found-left}
 use Rattle.division.proofs.sets.bundle_set.Statement.{statement}
 use Rattle.division.proofs.sets.bundle_set.Tie as tie

@@ -4,7 +4,7 @@ use Prim.Native.Nat.{_-_}
 use native.Mathlib.Omega.{arith}
 use Rattle.sheet.specs.Limits.{mostAgents}
 use Rattle.sheet.specs.Sets.{items, setOf}
-use Rattle.division.specs.Round.{bundle}
+use Rattle.rounds.specs.Round.{bundle}
 use Rattle.division.specs.internal.Sets.{bundleSets}
 use Rattle.division.proofs.Filling.{Filled, fill-next, fill-all}
 use Rattle.division.proofs.sets.bundle_sets.Statement.{statement}

@@ -10,8 +10,8 @@ use Rattle.sheet.specs.Limits.{mostAgents}
 use Rattle.sheet.specs.Sets.{items}
 use Rattle.cut.specs.Outcome.{padded}
 use Rattle.sheet.specs.Valuations.{valuesOf}
-use Rattle.division.specs.Valuations.{valuation}
-use Rattle.division.specs.Round.{cutterOf, cutBy}
+use Rattle.rounds.specs.Valuations.{valuation}
+use Rattle.rounds.specs.Round.{cutterOf, cutBy}
 use Rattle.division.specs.internal.Numbers.{fitsOf}
 use Rattle.division.specs.internal.Sets.{bundleSets}
 use Rattle.division.specs.internal.Suiting.{fitsTable}

@@ -4,7 +4,7 @@ use mathlib.Core.List.{List, [], map}
 use Prim.Native.Nat.{ℕ, _+_, _-_, _^_, _≤_}
 use lib.ListN.{getD, set as store}
 use Rattle.lists.specs.Lists.{range, all}
-use Rattle.division.specs.Valuations.{valuation, allValues, shareOf}
+use Rattle.rounds.specs.Valuations.{valuation, allValues, shareOf}
 use Rattle.division.specs.Outcome.{perAgent, blankCut}
 use Rattle.division.specs.declared.Cut.{Cut}
 use Rattle.division.proofs.OwnShares.{cutAt, placed-all}

@@ -9,7 +9,7 @@ use Rattle.lists.specs.Lists.{range, nth, all, any}
 use Rattle.lists.specs.Sums.{total}
 use Rattle.lists.proofs.Tests.{any-next}
 use Rattle.sheet.specs.Sets.{items}
-use Rattle.division.specs.Valuations.{valuation, value, allValues, shareOf}
+use Rattle.rounds.specs.Valuations.{valuation, value, allValues, shareOf}
 use Rattle.lists.proofs.Ranges.{in-range}
 use Rattle.lists.proofs.Counting.{mem-any}
 use Rattle.cut.proofs.Laws.{shares-le-total}

@@ -9,7 +9,7 @@ use lib.ListN.{getD}
 use Rattle.lists.specs.Lists.{nth}
 use Rattle.sheet.specs.Limits.{mostAgents}
 use Rattle.sheet.specs.Sets.{items}
-use Rattle.division.specs.Valuations.{value}
+use Rattle.rounds.specs.Valuations.{value}
 use Rattle.division.specs.internal.Suiting.{fitsRow}
 use Rattle.division.proofs.Filling.{Filled, fill-next, fill-all}
 use Rattle.division.proofs.suiting.fits_row.Statement.{statement}

@@ -8,7 +8,7 @@ use native.Mathlib.Omega.{arith}
 use lib.ListN.{getD}
 use Rattle.lists.specs.Lists.{nth}
 use Rattle.sheet.specs.Limits.{mostAgents}
-use Rattle.division.specs.Valuations.{valuation}
+use Rattle.rounds.specs.Valuations.{valuation}
 use Rattle.division.specs.internal.Suiting.{fitsRow, fitsTable}
 use Rattle.division.proofs.Filling.{Filled, fill-next, fill-all}
 use Rattle.division.proofs.suiting.fits_table.Statement.{statement}

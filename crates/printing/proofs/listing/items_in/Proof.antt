@@ -8,7 +8,7 @@ use borrow.Kind.Array.{eInt, good-length}
 use lib.ListN.{length}
 use Rattle.lists.specs.Lists.{range}
 use Rattle.sheet.specs.Limits.{mostItems}
-use Rattle.division.specs.Round.{bundle}
+use Rattle.rounds.specs.Round.{bundle}
 use Rattle.printing.specs.internal.Items.{Gathered}
 use Rattle.printing.proofs.Gathered.{gathered-more, bundle-taken, bundle-left}
 use Rattle.printing.proofs.listing.items_in.Statement.{statement}

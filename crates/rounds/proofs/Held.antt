@@ -1,0 +1,89 @@
+-- Laws of the bundle that an agent is given in a round, or holds from a later one. Assumes nothing.
+use mathlib.Core.Path.{_≡_, refl, sym, ap, ap₂, _∙_}
+use mathlib.Core.Bool.{Bool, true, false, not, cond, _||_, false≢true, true≢false, and-eq-true-iff}
+use mathlib.Core.Logic.{⊎-elim}
+use mathlib.Core.List.{List, [], _∷_, map, List·Memᴰ as Mem, List·Memᴰ·head as here, List·Memᴰ·tail as there}
+use mathlib.Core.List.{List·Memᴰ·not-nil as not-nil, List·Memᴰ·cases-cons as cases-cons}
+use Prim.Native.Nat.{ℕ, suc, _+_}
+use native.Mathlib.Omega.{arith}
+use lib.Dec.{eqb}
+use lib.ListN.{length}
+use borrow.Author.Tests.{eq-eqb, ne-eqb, eqb-true, not-true}
+use Rattle.lists.specs.Sums.{total, sumOver}
+use Rattle.lists.specs.Lists.{elem, distinct}
+use Rattle.lists.proofs.Distinct.{mem-elem}
+use Rattle.lists.proofs.Totals.{sumOver-cong}
+use Rattle.matching.specs.Matching.{suited}
+use Rattle.rounds.specs.Round.{given}
+
+-- an agent that is not served has its bundle from later
+pub given-later : (agent : ℕ) (served : List ℕ) (bundles : List (List ℕ)) (later : List ℕ) → elem agent served ≡ false → given agent served bundles later ≡ later
+given-later agent [] bundles later out = refl
+given-later agent (a ∷ served) [] later out = refl
+given-later agent (a ∷ served) (b ∷ bundles) later out = step (eqb agent a) refl (given-later agent served bundles later)
+  where
+    step : (t : Bool) → eqb agent a ≡ t → (elem agent served ≡ false → given agent served bundles later ≡ later)
+        → cond t b (given agent served bundles later) ≡ later
+    step true e below = absurd (true≢false (sym (ap (λ t. t || elem agent served) e) ∙ out))
+    step false e below = below (sym (ap (λ t. t || elem agent served) e) ∙ out)
+
+-- what holds of each bundle that is handed out and of the later one holds of the one given
+pub given-holds : (P : List ℕ → Type 0) (agent : ℕ) (served : List ℕ) (bundles : List (List ℕ)) (later : List ℕ)
+    → ((b : List ℕ) → Mem b bundles → P b) → P later → P (given agent served bundles later)
+given-holds P agent [] bundles later each last = last
+given-holds P agent (a ∷ served) [] later each last = last
+given-holds P agent (a ∷ served) (b ∷ bundles) later each last = elim (eqb agent a) as (λ t. P (cond t b (given agent served bundles later)))
+    [ true ↦ each b (here refl) | false ↦ given-holds P agent served bundles later (λ c m. each c (there m)) last ]
+
+-- each bundle suits the agent at its place, and there is one for each agent
+abbrev pub AllSuit : (ℕ → List ℕ → Bool) → List ℕ → List (List ℕ) → Type 0
+AllSuit suits [] [] = Unit {0}
+AllSuit suits [] (b ∷ bundles) = ⊥
+AllSuit suits (a ∷ served) [] = ⊥
+AllSuit suits (a ∷ served) (b ∷ bundles) = (suits a b ≡ true) × AllSuit suits served bundles
+
+pub suited-allSuit : (suits : ℕ → List ℕ → Bool) (bundle : ℕ → List ℕ) (served chosen : List ℕ)
+    → suited (λ a c. suits a (bundle c)) served chosen ≡ true → AllSuit suits served (map bundle chosen)
+suited-allSuit suits bundle [] [] fit = tt
+suited-allSuit suits bundle [] (c ∷ chosen) fit = absurd (false≢true fit)
+suited-allSuit suits bundle (a ∷ served) [] fit = absurd (false≢true fit)
+suited-allSuit suits bundle (a ∷ served) (c ∷ chosen) fit =
+    let (first, rest) = and-eq-true-iff (suits a (bundle c)) (suited (λ a c. suits a (bundle c)) served chosen) .0 fit in
+    (first, suited-allSuit suits bundle served chosen rest)
+
+pub allSuit-length : (suits : ℕ → List ℕ → Bool) (served : List ℕ) (bundles : List (List ℕ)) → AllSuit suits served bundles → length bundles ≡ length served
+allSuit-length suits [] [] fit = refl
+allSuit-length suits [] (b ∷ bundles) fit = absurd fit
+allSuit-length suits (a ∷ served) [] fit = absurd fit
+allSuit-length suits (a ∷ served) (b ∷ bundles) fit = ap suc (allSuit-length suits served bundles (fit .1))
+
+-- an agent that is served is given a bundle that suits it
+pub given-suits : (suits : ℕ → List ℕ → Bool) (agent : ℕ) (served : List ℕ) (bundles : List (List ℕ)) (later : List ℕ)
+    → AllSuit suits served bundles → Mem agent served → suits agent (given agent served bundles later) ≡ true
+given-suits suits agent [] bundles later fit m = absurd (not-nil m)
+given-suits suits agent (a ∷ served) [] later fit m = absurd fit
+given-suits suits agent (a ∷ served) (b ∷ bundles) later fit m = step (eqb agent a) refl (given-suits suits agent served bundles later (fit .1))
+  where
+    step : (t : Bool) → eqb agent a ≡ t → (Mem agent served → suits agent (given agent served bundles later) ≡ true)
+        → suits agent (cond t b (given agent served bundles later)) ≡ true
+    step true e below = rw (eqb-true agent a e) (fit .0)
+    step false e below = below (⊎-elim (λ d. absurd (true≢false (sym (eq-eqb agent a d) ∙ e))) (λ n. n) (cases-cons m))
+
+-- the agents that are served are given the bundles that are handed out
+pub sumOver-given : (w : List ℕ → ℕ) (served : List ℕ) (bundles : List (List ℕ)) (later : ℕ → List ℕ) → distinct served ≡ true → length bundles ≡ length served
+    → sumOver (λ agent. w (given agent served bundles (later agent))) served ≡ total (map w bundles)
+sumOver-given w [] [] later once same = refl
+sumOver-given w [] (b ∷ bundles) later once same = absurd (omega arith)
+sumOver-given w (a ∷ served) [] later once same = absurd (omega arith)
+sumOver-given w (a ∷ served) (b ∷ bundles) later once same =
+    ap₂ _+_ (ap (λ t. w (cond t b (given a served bundles (later a)))) (eq-eqb a a refl))
+    (sumOver-cong (λ agent. w (given agent (a ∷ served) (b ∷ bundles) (later agent))) (λ agent. w (given agent served bundles (later agent))) served other
+    ∙ sumOver-given w served bundles later (both .1) (omega arith))
+  where
+    both : (not (elem a served) ≡ true) × (distinct served ≡ true)
+    both = and-eq-true-iff (not (elem a served)) (distinct served) .0 once
+
+    other : (agent : ℕ) → Mem agent served → w (given agent (a ∷ served) (b ∷ bundles) (later agent)) ≡ w (given agent served bundles (later agent))
+    other agent m =
+        ap (λ t. w (cond t b (given agent served bundles (later agent))))
+        (ne-eqb agent a (λ e. true≢false (sym (mem-elem m) ∙ ap (λ y. elem y served) e ∙ not-true (elem a served) (both .0))))
