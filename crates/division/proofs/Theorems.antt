@@ -2,24 +2,23 @@
 use mathlib.Core.Path.{_≡_, refl, sym, ap, _∙_}
 use mathlib.Core.Bool.{false≢true}
 use mathlib.Core.Logic.{⊎-elim}
-use mathlib.Core.List.{List, List·Memᴰ as Mem}
+use mathlib.Core.List.{List}
 use Prim.Native.Nat.{ℕ, _≤_}
 use native.Mathlib.Omega.{arith}
 use lib.ListN.{length}
 use Rattle.lists.specs.Lists.{range}
 use Rattle.lists.proofs.Ranges.{in-range, range-bounds, length-range}
 use Rattle.lists.proofs.Counting.{sublist-mem, filter-all}
-use Rattle.sheet.specs.Limits.{mostAgents, mostItems}
+use Rattle.sheet.specs.Limits.{mostItems}
 use Rattle.rounds.specs.Valuations.{AgreeInUse}
 use Rattle.rounds.specs.Ratio.{termsFor}
-use Rattle.rounds.specs.Round.{Round}
-use Rattle.rounds.specs.Division.{refused, divided, standardInstance, allRounds, allocation, divisionOf, answer}
+use Rattle.rounds.specs.Division.{refused, divided, standardInstance, allocation, divisionOf, answer}
 use Rattle.division.specs.Outcome.{outcome}
 use Rattle.division.specs.Promise.{isDivision, bundlesIn, allAgents, satisfiedAgents, Allocates, Promised}
 use Rattle.rounds.proofs.Ratio.{termsFor-allowed}
-use Rattle.rounds.proofs.Profile.{profile-agree}
-use Rattle.rounds.proofs.Allocation.{length-allocation, allocation-sublist, served-each, holds-promised, item-in-one}
-use Rattle.rounds.proofs.Answers.{divisionByRounds, CountsWithin, answer-cases, never-share-above-total, answer-within-limits}
+use Rattle.rounds.proofs.Allocation.{length-allocation, allocation-sublist, holds-promised, item-in-one}
+use Rattle.rounds.proofs.Answers.{divisionByRounds, CountsWithin, answer-cases, answer-within-limits}
+use Rattle.rounds.proofs.Theorems.{agreeing-tables-same-answer}
 use Rattle.division.proofs.Outcomes.{bundlesIn-divided}
 
 module _ (n m : ℕ) (table : List (List ℕ)) where
@@ -72,23 +71,6 @@ module _ (n m : ℕ) (table : List (List ℕ)) where
   pub promised : Promised n m table (outcome (answer n m table))
   promised = ⊎-elim (λ d. rw (d .0) (promised-divided (d .1))) (λ r. rw (r .1) (promised-refused (r .0) (r .1))) (answer-cases n m table)
 
-  -- "Every table within the limits is divided, by the rounds of document 01"
-  pub within-limits-divided : 1 ≤ n → n ≤ mostAgents → 1 ≤ m → m ≤ mostItems → answer n m table ≡ divided (divisionByRounds n m table)
-  within-limits-divided some few some-items few-items = answer-within-limits n m table some few some-items few-items
-
-  -- serving never fails: in every round there is a bundle for each agent served
-  pub every-round-serves : (r : Round) → Mem r (allRounds n m (standardInstance n m table)) → length (r .bundles) ≡ length (r .served)
-  every-round-serves = served-each n m (termsFor n) table (termsFor-allowed n)
-
-  -- refusal 9 never fires
-  pub share-check-never-fires : 1 ≤ n → answer n m table ≡ refused 9 → ⊥
-  share-check-never-fires some = never-share-above-total n m table some
-
--- "places beyond the yards and pieces in use count for nothing"
-pub agreeing-tables-same-answer : (n m : ℕ) (table table′ : List (List ℕ)) → AgreeInUse n m table table′ → answer n m table ≡ answer n m table′
-unfolding answer
-agreeing-tables-same-answer n m table table′ same = rw (profile-agree n m table table′ same)
-
--- and so the code's answer is the same
+-- "places beyond the yards and pieces in use count for nothing": the code's answer is the same
 pub agreeing-tables-same-outcome : (n m : ℕ) (table table′ : List (List ℕ)) → AgreeInUse n m table table′ → outcome (answer n m table) ≡ outcome (answer n m table′)
 agreeing-tables-same-outcome n m table table′ same = ap outcome (agreeing-tables-same-answer n m table table′ same)

@@ -17,4 +17,5 @@ pub mod Rounds
 pub mod Profile
 pub mod Allocation
 pub mod Answers
+pub mod Theorems
 pub mod Samples

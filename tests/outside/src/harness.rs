@@ -1,6 +1,8 @@
 //! Holds an entry of the library against the solver, one text at a time: the answer, and every byte
 //! of the lent buffer and of the memory on both sides of it.
 
+use std::process::ExitCode;
+
 use crate::division::{divide, Division};
 use crate::limits::MOST_YARDS;
 use crate::printer::print;
@@ -13,6 +15,20 @@ pub type Entry<'a> = &'a dyn Fn(&[u8], &mut [u8]) -> i64;
 /// The printed division of the greatest sheet is shorter than this.
 const LARGE_BUFFER: usize = 2_048;
 const MARGIN: usize = 64;
+
+/// The end of a comparison: 0 without a difference, else the first one and 1.
+pub fn verdict(result: Result<(), String>) -> ExitCode {
+    match result {
+        Ok(()) => {
+            println!("not one difference");
+            ExitCode::SUCCESS
+        }
+        Err(difference) => {
+            println!("{difference}");
+            ExitCode::FAILURE
+        }
+    }
+}
 
 #[derive(Default)]
 pub struct Counts {

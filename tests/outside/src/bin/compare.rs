@@ -3,6 +3,8 @@
 
 use std::process::ExitCode;
 
+use outside::harness::verdict;
+
 #[link(name = "shareout_c", kind = "static")]
 extern "C" {
     /// The length of the printed text, with 0 for the number; or 0, with the refusal's number.
@@ -32,14 +34,5 @@ fn library(text: &[u8], buffer: &mut [u8]) -> i64 {
 }
 
 fn main() -> ExitCode {
-    match outside::run::run(&library) {
-        Ok(()) => {
-            println!("not one difference");
-            ExitCode::SUCCESS
-        }
-        Err(difference) => {
-            println!("{difference}");
-            ExitCode::FAILURE
-        }
-    }
+    verdict(outside::run::run(&library))
 }

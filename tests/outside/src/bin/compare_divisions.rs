@@ -6,6 +6,7 @@ use std::process::ExitCode;
 
 use outside::division::{divide, Division};
 use outside::families::FAMILIES;
+use outside::harness::verdict;
 use outside::limits::{MOST_PIECES, MOST_YARDS};
 use outside::promise::keeps_promise;
 use outside::reader::Sheet;
@@ -121,14 +122,5 @@ fn run() -> Result<(), String> {
 }
 
 fn main() -> ExitCode {
-    match run() {
-        Ok(()) => {
-            println!("not one difference");
-            ExitCode::SUCCESS
-        }
-        Err(difference) => {
-            println!("{difference}");
-            ExitCode::FAILURE
-        }
-    }
+    verdict(run())
 }
