@@ -10,17 +10,17 @@ use sheet::Table;
 const ROOM: usize = 640;
 
 // Prints bytes.
-pub fn print(bytes: &[u8]) {
+pub(crate) fn print(bytes: &[u8]) {
     io::write_all(STDOUT_FILENO, bytes);
 }
 
 // Prints a number.
-pub fn print_number(n: usize) {
+pub(crate) fn print_number(n: usize) {
     io::print_decimal(STDOUT_FILENO, n as u64);
 }
 
 // Prints the answer to a text, and ends the line.
-pub fn print_answer(text: &[u8]) {
+pub(crate) fn print_answer(text: &[u8]) {
     let answer = reading::read(text);
     match answer {
         Answer::Refused(number) => {
@@ -38,7 +38,7 @@ pub fn print_answer(text: &[u8]) {
 }
 
 // Prints the answer to three parts of a text, one behind the other.
-pub fn print_joined(first: &[u8], second: &[u8], third: &[u8]) {
+pub(crate) fn print_joined(first: &[u8], second: &[u8], third: &[u8]) {
     let mut buffer = [0; ROOM];
     let one = append(&mut buffer, 0, first);
     let two = append(&mut buffer, one, second);

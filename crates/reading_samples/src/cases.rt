@@ -5,7 +5,7 @@ use crate::answer::print;
 use crate::answer::print_joined;
 
 // Cases that are a name and the middle part of a text.
-pub fn named(before: &[u8], cases: &[u8], after: &[u8]) {
+pub(crate) fn named(before: &[u8], cases: &[u8], after: &[u8]) {
     let mut at = 0;
     while at < cases.len() {
         let name_end = next_bar(cases, at);
@@ -25,7 +25,7 @@ pub fn named(before: &[u8], cases: &[u8], after: &[u8]) {
 }
 
 // Cases that are the middle part of a text, which is their name behind a label.
-pub fn values(label: &[u8], before: &[u8], cases: &[u8], after: &[u8]) {
+pub(crate) fn values(label: &[u8], before: &[u8], cases: &[u8], after: &[u8]) {
     let mut at = 0;
     while at < cases.len() {
         let to = next_bar(cases, at);

@@ -6,7 +6,7 @@ use crate::answer::print_joined;
 use crate::answer::print_number;
 
 // Damages a text at each place.
-pub fn damaged(text: &[u8]) {
+pub(crate) fn damaged(text: &[u8]) {
     for place in 0..text.len() {
         deleted(text, place);
         doubled(text, place);

@@ -11,7 +11,7 @@ use sheet::Sheet;
 const TOO_LONG: usize = Sheet::LONGEST_TEXT + 1;
 
 // A text made as long as a text may be, and one byte longer, with line feeds and with spaces.
-pub fn long(name: &[u8], start: &[u8]) {
+pub(crate) fn long(name: &[u8], start: &[u8]) {
     filled(
         name,
         start,

@@ -3,7 +3,7 @@ ghost use Prim.Native.Nat.{_≤_};
 ghost use lib.ListN.{length};
 
 // Puts the bytes of a part behind those in use, as far as there is room, and answers how many are in use then.
-pub fn append(buffer: &mut [u8], used: usize, part: &[u8]) -> usize
+pub(crate) fn append(buffer: &mut [u8], used: usize, part: &[u8]) -> usize
     requires { ⌜ used ≤ length (now buffer) ⌝ }
     ensures { λ r. ⌜ r ≤ length (now (buffer .entry)) ⌝ }
 {
