@@ -73,15 +73,10 @@ pub(crate) fn divide_left(
     }
     let settled = settle_round(table, shares, top, bottom, agents, set, yards, own);
     let served = settled.served;
-    let served_numbers = served.numbers;
-    let served_count = served.count;
+    let numbers = served.numbers;
+    let count = served.count;
     let sets = settled.sets;
-    let given = hand_out(
-        allocation,
-        settled.cutter,
-        &served_numbers[..served_count],
-        sets,
-    );
+    let given = hand_out(allocation, settled.cutter, &numbers[..count], sets);
     let waiting = settled.waiting;
     let waiting_numbers = waiting.numbers;
     let waiting_count = waiting.count;

@@ -35,19 +35,24 @@ print-outcome-requires c κs =
 
 returns : tie.Need-returns
 returns c =
-    let a = c .before .before .before .before .before .args in
-    rw (refusal-printed (a .yards) (a .pieces) (a .table) (length (a .buffer .now)) (c .before .answer .given .0 .0) (sym (ap (λ o. o .answer) (c .before .before .before .divide .ensures .0)) ∙ c .before .answer .given .1))
-    (refl, refl)
+    let at-divide = c .before .before .before in
+    let a = at-divide .before .before .args in
+    let number = c .before .answer .given .0 .0 in
+    let told = sym (ap (λ o. o .answer) (at-divide .divide .ensures .0)) ∙ c .before .answer .given .1 in
+    rw (refusal-printed (a .yards) (a .pieces) (a .table) (length (a .buffer .now)) number told) (refl, refl)
 
 same-length : tie.Need-same-length
 same-length c = search needs
 
 returns-2 : tie.Need-returns-2
 returns-2 c =
-    let a = c .before .before .before .before .before .before .before .before .before .args in
-    let printed = c .before .before .print-outcome in
-    rw (← division-printed (a .yards) (a .pieces) (a .table) (c .before .before .before .before .before .answer2 .given .0 .0) (accepted (c .before .before .before .before .before)) (length (a .buffer .now)), ← c .before .before .before .before .before .before .before .divide .ensures .0)
-    (printed .ensures)
+    let at-print = c .before .before in
+    let at-answer = at-print .before .before .before in
+    let at-divide = at-answer .before .before in
+    let a = at-divide .before .before .args in
+    let grade = at-answer .answer2 .given .0 .0 in
+    rw (← division-printed (a .yards) (a .pieces) (a .table) grade (accepted at-answer) (length (a .buffer .now)), ← at-divide .divide .ensures .0)
+    (at-print .print-outcome .ensures)
 
 pub print-spec : {M : Type 1} → statement M
 print-spec =

@@ -112,8 +112,8 @@ module _ (t : ℕ) where
   settle-round-requires : lts.Need-settle-round-requires (claims t) (divide-left-at t) divide-left.Post
   settle-round-requires c κs = let pre = c .before .before .pre .1 in ((pre .0 .terms, pre .0 .light, pre .0 .left, omega arith), pre .1 .1)
 
-  array-share-prefix-served-numbers : lts.Need-array-share-prefix-served-numbers (claims t) (divide-left-at t) divide-left.Post
-  array-share-prefix-served-numbers c = part-fits (served-lists (c .before .before .before))
+  array-share-prefix-numbers : lts.Need-array-share-prefix-numbers (claims t) (divide-left-at t) divide-left.Post
+  array-share-prefix-numbers c = part-fits (served-lists (c .before .before .before))
 
   slice-aggregate-hand-out : lts.Need-slice-aggregate-hand-out (claims t) (divide-left-at t) divide-left.Post
   slice-aggregate-hand-out c = part-count (served-lists (c .before .before .before .before))
@@ -169,7 +169,7 @@ pub +divide-left-spec : {M : Type 1} → statement M
     close μ-divide-left λ t. lts.spec (claims t) (divide-left-at t) divide-left.Post
     (returns t)
     (settle-round-requires t)
-    (array-share-prefix-served-numbers t)
+    (array-share-prefix-numbers t)
     (slice-aggregate-hand-out t)
     (hand-out-requires t)
     (array-share-prefix-waiting-numbers t)

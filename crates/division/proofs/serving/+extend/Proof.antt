@@ -126,7 +126,10 @@ module _ (t : ℕ) where
   contains-requires c κs = tt
 
   append-requires : lts.Need-append-requires (claims t) (extend-at t) extend.Post Inv-loop μ-loop
-  append-requires c κs = let s = c .before .before .before .before .before .before .before .before .before .before .before .before .before in omega (arith, chosen-count s, agent-left s (c .before .before .before .before .before .before .before .before .before .before .if1 .left), s .pre .1 .1 .few)
+  append-requires c κs =
+      let at-test = c .before .before .before .before .before .before .before .before .before .before in
+      let s = at-test .before .before .before in
+      omega (arith, chosen-count s, agent-left s (at-test .if1 .left), s .pre .1 .1 .few)
 
   extend-requires : lts.Need-extend-requires (claims t) (extend-at t) extend.Post Inv-loop μ-loop
   extend-requires c κs =

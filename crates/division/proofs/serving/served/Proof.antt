@@ -2,12 +2,13 @@
 use mathlib.Core.Path.{_≡_, sym, ap, _∙_}
 use mathlib.Core.Bool.{Bool}
 use mathlib.Core.Logic.{⊎-elim}
-use Prim.Native.Nat.{ℕ, _-_, _≤_}
+use Prim.Native.Nat.{ℕ, _-_, _≤_, _<_}
 use native.Mathlib.Omega.{arith}
 use lib.ListN.{length, getD, take, length-take}
 use lib.Seq.{take-length}
 use borrow.Author.Tests.{not-true, not-false}
 use Rattle.lists.specs.Lists.{elem}
+use Rattle.sheet.specs.Limits.{mostAgents}
 use Rattle.matching.specs.Matching.{servedAgents}
 use Rattle.division.specs.internal.Numbers.{numbered}
 use Rattle.division.proofs.Numbers.{kept-few, kept-more, kept-same}
@@ -47,15 +48,18 @@ loop-less c = omega arith
 
 loop-again : tie.Need-loop-again Inv-loop μ-loop
 loop-again c =
-    let a = c .before .before .before .before .before .before .before .before .args in
+    let start = c .before .before .before .before .before .before .before .before in
+    let a = start .args in
     let l = c .before .before .before .before .loop in
+    let found = c .before .contains in
     let waits : ℕ → Bool = λ agent. elem agent (a .waiting .now) in
     let before = take (l .i) (a .agents .now) in
+    let few : length before < mostAgents = omega (arith, length-take (l .i) (a .agents .now), start .pre) in
     let agent = getD (a .agents .now) (l .i) 0 in (
       omega arith,
       rw (take-next (a .agents .now) (l .i) (omega arith)) (⊎-elim
-          (λ w. w .2 ∙ w .1 .ensures ∙ kept-more waits before agent (l .left) (l .inv .1) (omega (arith, length-take (l .i) (a .agents .now), c .before .before .before .before .before .before .before .before .pre)) (sym (c .before .contains .ensures) ∙ not-true (c .before .contains .result) (w .0 .taken)))
-          (λ w. w .1 ∙ kept-same waits before agent (l .left) (l .inv .1) (sym (c .before .contains .ensures) ∙ not-false (c .before .contains .result) (w .0 .left)))
+          (λ w. w .2 ∙ w .1 .ensures ∙ kept-more waits before agent (l .left) (l .inv .1) few (sym (found .ensures) ∙ not-true (found .result) (w .0 .taken)))
+          (λ w. w .1 ∙ kept-same waits before agent (l .left) (l .inv .1) (sym (found .ensures) ∙ not-false (found .result) (w .0 .left)))
           (c .if1 .came)),
     )
 

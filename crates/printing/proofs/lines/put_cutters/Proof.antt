@@ -25,9 +25,10 @@ array-share-prefix-cutters c = search needs
 
 slice-aggregate-put-spaced : tie.Need-slice-aggregate-put-spaced
 slice-aggregate-put-spaced c =
-    let s = c .before .before .before .before .before .before .before .before .before in
+    let at-rounds = c .before .before .before .before .before .before .before in
+    let s = at-rounds .before .before in
     let places = good-length (eInt w8) mostAgents (s .args .t3) _ (s .good .1 .1 .0) in
-    sym (length-take-le (c .before .before .before .before .before .before .before .rounds-of .result) (s .args .t3) (omega (arith, c .before .before .before .before .before .before .before .rounds-of .ensures .0)))
+    sym (length-take-le (at-rounds .rounds-of .result) (s .args .t3) (omega (arith, at-rounds .rounds-of .ensures .0)))
 
 put-spaced-requires : tie.Need-put-spaced-requires
 put-spaced-requires c κs = search needs
@@ -44,7 +45,12 @@ same-length c = search needs
 returns : tie.Need-returns
 unfolding cuttersLine
 returns c =
-    c .before .before .before .before .before .before .before .before .before .before .before .before .put-bytes .ensures then rw (c .before .before .before .before .before .before .before .before .before .before .before .before .before .before .before .rounds-of .ensures .1) at (c .before .before .before .before .before .before .before .put-spaced .ensures) then c .before .before .put-bytes2 .ensures
+    let at-end = c .before .before in
+    let at-numbers = at-end .before .before .before .before .before in
+    let at-word = at-numbers .before .before .before .before .before in
+    let at-rounds = at-word .before .before .before in
+    let numbers-put = rw (at-rounds .rounds-of .ensures .1) at (at-numbers .put-spaced .ensures) in
+    at-word .put-bytes .ensures then numbers-put then at-end .put-bytes2 .ensures
 
 pub put-cutters-spec : {M : Type 1} → statement M
 put-cutters-spec =

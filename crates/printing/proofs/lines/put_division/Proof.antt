@@ -27,7 +27,11 @@ same-length c = search needs
 returns : tie.Need-returns
 unfolding outcomeText allLines
 returns c =
-    c .before .before .before .before .before .before .before .before .before .before .before .before .before .before .before .put-head .ensures then c .before .before .before .before .before .before .before .before .before .before .before .put-yards .ensures then c .before .before .before .before .before .before .before .put-cutters .ensures then c .before .before .put-bytes .ensures
+    let at-end = c .before .before in
+    let at-cutters = at-end .before .before .before .before .before in
+    let at-yards = at-cutters .before .before .before .before in
+    let at-head = at-yards .before .before .before .before in
+    at-head .put-head .ensures then at-yards .put-yards .ensures then at-cutters .put-cutters .ensures then at-end .put-bytes .ensures
 
 pub put-division-spec : {M : Type 1} → statement M
 put-division-spec =

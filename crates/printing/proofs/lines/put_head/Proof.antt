@@ -38,7 +38,13 @@ same-length c = search needs
 returns : tie.Need-returns
 unfolding headLine
 returns c =
-    c .before .before .before .before .before .before .before .before .before .before .before .before .before .before .before .before .before .before .put-field .ensures then c .before .before .before .before .before .before .before .before .before .before .before .before .before .put-field2 .ensures then rw (c .before .before .before .before .before .before .before .before .wide .ensures) at (c .before .before .before .before .before .before .before .put-field3 .ensures) then c .before .before .put-bytes .ensures
+    let at-end = c .before .before in
+    let at-grade = at-end .before .before .before .before .before in
+    let at-wide = at-grade .before in
+    let at-pieces = at-wide .before .before .before .before .before in
+    let at-yards = at-pieces .before .before .before .before .before in
+    let grade-put = rw (at-wide .wide .ensures) at (at-grade .put-field3 .ensures) in
+    at-yards .put-field .ensures then at-pieces .put-field2 .ensures then grade-put then at-end .put-bytes .ensures
 
 pub put-head-spec : {M : Type 1} → statement M
 put-head-spec =

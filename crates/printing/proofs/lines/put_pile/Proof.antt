@@ -34,7 +34,12 @@ same-length c = search needs
 returns : tie.Need-returns
 unfolding pileGroup
 returns c =
-    c .before .before .before .before .before .before .before .before .before .before .before .put-bytes .ensures then rw (c .before .before .before .before .before .before .before .before .before .before .before .before .before .before .before .items-of .ensures .listed) at (c .before .before .before .before .before .before .put-spaced .ensures) then c .before .before .put .ensures
+    let at-end = c .before .before in
+    let at-numbers = at-end .before .before .before .before in
+    let at-word = at-numbers .before .before .before .before .before in
+    let at-items = at-word .before .before .before .before in
+    let numbers-put = rw (at-items .items-of .ensures .listed) at (at-numbers .put-spaced .ensures) in
+    at-word .put-bytes .ensures then numbers-put then at-end .put .ensures
 
 pub put-pile-spec : {M : Type 1} → statement M
 put-pile-spec =

@@ -50,8 +50,13 @@ same-length-2 c = search needs
 
 returns-2 : tie.Need-returns-2
 returns-2 c =
-    rw (first-and-rest (c .before .before .before .before .before .before .before .before .before .before .before .before .before .before .before .before .before .before .before .args .numbers .now) (omega arith))
-    (rw (c .before .before .before .before .before .before .before .before .before .before .before .before .wide .ensures) at (c .before .before .before .before .before .before .before .before .before .before .before .put-field .ensures) then c .before .before .before .before .before .before .put-spaced .ensures then c .before .before .put .ensures)
+    let at-end = c .before .before in
+    let at-rest = at-end .before .before .before .before in
+    let at-first = at-rest .before .before .before .before .before in
+    let at-wide = at-first .before in
+    let start = at-wide .before .before .before .before .before .before .before in
+    let first-put = rw (at-wide .wide .ensures) at (at-first .put-field .ensures) in
+    rw (first-and-rest (start .args .numbers .now) (omega arith)) (first-put then at-rest .put-spaced .ensures then at-end .put .ensures)
 
 pub put-group-spec : {M : Type 1} → statement M
 put-group-spec =

@@ -72,7 +72,9 @@ returns-3 c =
 returns-4 : tie.Need-returns-4
 returns-4 c =
     let l = rw (c .before .c3 .given .1) at (c .before .before .before .follow .ensures) in
-    rw (row-read (c .before .before .before .before .before .before)) (l .0, yard-line-kept _ _ _ _ (turn-read (c .before .before .before .before .before .before .before .before .before .before) .1) ∙ rw (marks-read (c .before .before .before .before .before .before) .1, l .1))
+    let at-marks = c .before .before .before .before .before .before in
+    let turn = turn-read (at-marks .before .before .before .before) .1 in
+    rw (row-read at-marks) (l .0, yard-line-kept _ _ _ _ turn ∙ rw (marks-read at-marks .1, l .1))
 
 pub yard-line-spec : {M : Type 1} → statement M
 yard-line-spec =
