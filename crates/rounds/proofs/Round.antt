@@ -56,7 +56,7 @@ module _ (G : Instance) (agents items : List ℕ) where
 
   pub left-sub : Sublist (r .left) items
   unfolding round
-  left-sub = itemsIn-sublist (λ c. not (elem c chosen)) items cut
+  left-sub = itemsIn-sublist _ items cut
 
   pub bundles-sub : (b : List ℕ) → Mem b (r .bundles) → Sublist b items
   unfolding round
