@@ -1,4 +1,4 @@
-// Dividing a table of marks among its agents (yards). Its meaning stands in specs/, the theorems in proofs/Theorems.antt.
+// Dividing a table of marks among its agents (yards). Its meaning stands in specs/ and in the crate `rounds`, the promise in proofs/Theorems.antt.
 ghost use mathlib.Core.Path.{_≡_};
 ghost use Rattle.lists.specs.Lists.{range};
 ghost use Rattle.sheet.specs.Limits.{mostAgents};

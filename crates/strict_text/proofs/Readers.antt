@@ -1,4 +1,4 @@
--- What a reader has read is written by the tokens that it took: each reader of specs/Grammar inverted. Assumes nothing.
+-- What a reader has read is written by the tokens that it took: each reader of the grammar inverted. Assumes nothing.
 use mathlib.Core.Path.{_≡_, refl, sym, ap, ap₂, _∙_}
 use mathlib.Core.List.{List, [], _∷_, _++_, map, append-assoc, append-nil}
 use mathlib.Core.Option.{Option, none, some, Option·some-injective, Option·none-ne-some}

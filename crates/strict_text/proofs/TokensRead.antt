@@ -1,4 +1,4 @@
--- The tokens of a sheet's lines are read to what they were made of, for each reader of specs/Grammar. Assumes nothing.
+-- The tokens of a sheet's lines are read to what they were made of, for each reader of the grammar. Assumes nothing.
 use mathlib.Core.Path.{_≡_, refl, sym, ap, _∙_}
 use mathlib.Core.List.{List, [], _∷_, _++_, map, append-assoc, append-nil}
 use mathlib.Core.Option.{some}
