@@ -1,0 +1,9 @@
+-- Members of a list: tested, counted, mapped, and none of them twice.
+pub mod Each
+pub mod Counting
+pub mod Congruence
+pub mod Distinct
+pub mod DistinctAppend
+pub mod Tests
+pub mod Maps
+pub mod FlatMap

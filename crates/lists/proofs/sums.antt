@@ -1,0 +1,6 @@
+-- Sums, and the least and the greatest of several numbers.
+pub mod Sums
+pub mod Totals
+pub mod LeastOf
+pub mod GreatestOf
+pub mod Exchange
