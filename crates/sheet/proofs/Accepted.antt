@@ -1,0 +1,21 @@
+-- What an accepted answer says of the tests on its way: each of them was passed. Assumes nothing.
+use mathlib.Core.Path.{_≡_, refl}
+use mathlib.Core.Bool.{Bool, true, false}
+use mathlib.Core.Option.{Option, none, some}
+use Prim.Native.Nat.{ℕ}
+use native.Mathlib.Omega.{arith}
+use Rattle.sheet.specs.Answers.{Answer, refused, accepted, require, requireSome}
+
+module _ {B : Type 0} (b : B) where
+  pub refused-not-accepted : (n : ℕ) → refused n ≡ accepted b → ⊥
+  refused-not-accepted n e = let z : _≡_ {A = ℕ} 0 1 = cc in absurd (omega arith)
+
+  pub required : (n : ℕ) (test : Bool) (later : Answer B) → require n test later ≡ accepted b → (test ≡ true) × (later ≡ accepted b)
+  required n true later e = (refl, e)
+  required n false later e = absurd (refused-not-accepted n e)
+
+  -- what was there, and that what follows from it is accepted
+  pub requiredSome : {A : Type 0} (n : ℕ) (o : Option A) (next : A → Answer B) → requireSome n o next ≡ accepted b
+      → (a : A) × (o ≡ some a) × (next a ≡ accepted b)
+  requiredSome n none next e = absurd (refused-not-accepted n e)
+  requiredSome n (some a) next e = (a, refl, e)

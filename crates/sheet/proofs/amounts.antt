@@ -1,0 +1,2 @@
+-- Amounts compared agent by agent.
+pub mod Comparing

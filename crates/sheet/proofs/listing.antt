@@ -1,0 +1,3 @@
+-- Short lists in their places.
+pub mod Listed
+pub mod Kept

@@ -1,0 +1,3 @@
+-- Values of items and bundles, and the places in use of a table.
+pub mod Valuations
+pub mod Tables

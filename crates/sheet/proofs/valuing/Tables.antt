@@ -1,0 +1,34 @@
+-- Laws of the places in use of a table: each agent's values and bundle values are those of the table. Assumes nothing.
+use mathlib.Core.Path.{_≡_, ap, _∙_}
+use mathlib.Core.List.{List, [], map, List·Memᴰ as Mem}
+use mathlib.Core.List.{Sublistᴰ as Sublist}
+use Prim.Native.Nat.{ℕ}
+use native.Mathlib.Omega.{arith}
+use Rattle.lists.specs.Lists.{range}
+use Rattle.lists.specs.Sums.{total}
+use Rattle.lists.proofs.ranges.Ranges.{range-bounds, nth-map-range}
+use Rattle.lists.proofs.members.Counting.{sublist-mem}
+use Rattle.lists.proofs.sums.Totals.{map-cong}
+use Rattle.sheet.specs.Valuations.{itemValue, value}
+use Rattle.sheet.specs.Tables.{valuation, allValues, profile, AgreeInUse}
+
+module _ (n m : ℕ) (table : List (List ℕ)) {agent : ℕ} (in-use : Mem agent (range 1 n)) where
+  pub valuation-profile : valuation (profile n m table) agent ≡ allValues m (valuation table agent)
+  unfolding profile
+  valuation-profile = nth-map-range (λ i. allValues m (valuation table i)) [] n in-use
+
+  pub itemValue-profile : (k : ℕ) → Mem k (range 1 m) → itemValue (valuation (profile n m table) agent) k ≡ itemValue (valuation table agent) k
+  itemValue-profile k mk = ap (λ row. itemValue row k) valuation-profile ∙ nth-map-range (itemValue (valuation table agent)) 0 m mk
+
+  pub values-profile : {items : List ℕ} → Sublist items (range 1 m) → map (itemValue (valuation (profile n m table) agent)) items ≡ map (itemValue (valuation table agent)) items
+  values-profile {items} s = map-cong (itemValue (valuation (profile n m table) agent)) (itemValue (valuation table agent)) items (λ k mk. itemValue-profile k (sublist-mem s mk))
+
+  pub value-profile : {items : List ℕ} → Sublist items (range 1 m) → value (valuation (profile n m table) agent) items ≡ value (valuation table agent) items
+  value-profile s = ap total (values-profile s)
+
+pub profile-agree : (n m : ℕ) (table table′ : List (List ℕ)) → AgreeInUse n m table table′ → profile n m table ≡ profile n m table′
+unfolding profile
+profile-agree n m table table′ same =
+    map-cong (λ i. allValues m (valuation table i)) (λ i. allValues m (valuation table′ i)) (range 1 n)
+    (λ agent ma. map-cong (itemValue (valuation table agent)) (itemValue (valuation table′ agent)) (range 1 m)
+    (λ k mk. let a = range-bounds 1 n ma in let b = range-bounds 1 m mk in same agent k (a .0) (omega arith) (b .0) (omega arith)))
