@@ -1,13 +1,6 @@
--- `Laws` is what the crates above cite; the rest serves the proofs of this crate's functions.
+-- `Laws` is what the crates above cite; the rest serves the proofs of this crate's functions: `growth` has the laws of the search,
+-- and those of loads, pruning and walking stand beside the functions.
 pub mod Laws
 pub mod Samples
 mod Partitions
-mod Scan
-mod Exchange
-mod Growth
-mod GrowthShare
-mod Threshold
-mod Loads
-mod Items
-mod Walked
-mod WholeWalk
+mod growth

@@ -1,19 +1,12 @@
--- What a caller by C's calling convention is answered, and what its lent places hold afterwards. Assumes nothing: these are definitions.
+-- What a cut stores in the places that a caller by C's calling convention lends. Assumes nothing: these are definitions.
 use mathlib.Core.List.{List}
 use Prim.Native.Nat.{ℕ}
-use Rattle.cut.specs.Outcome.{Cutting, refused, shared, padded}
+use Rattle.cut.specs.Outcome.{Cutting, placed}
 
--- 0, or the number of the refusal
-abbrev pub numberOf : Cutting → ℕ
-numberOf (refused number) = number
-numberOf (shared share partition) = 0
+-- the share, in place of what stood there
+abbrev pub storeShare : Cutting → ℕ → ℕ
+storeShare c old = c .share
 
--- the place of the share: its old content on a refusal
-abbrev pub shareAfter : Cutting → ℕ → ℕ
-shareAfter (refused number) old = old
-shareAfter (shared share partition) old = share
-
--- the places of the partition: their old content on a refusal
-abbrev pub partitionAfter : Cutting → List ℕ → List ℕ
-partitionAfter (refused number) old = old
-partitionAfter (shared share partition) old = padded partition
+-- the partition in twelve places, in place of what stood there
+abbrev pub storePartition : Cutting → List ℕ → List ℕ
+storePartition c old = placed (c .partition)

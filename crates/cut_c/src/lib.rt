@@ -1,7 +1,8 @@
 // Cutting for callers in C or Rust: numbers and places that the caller lends, by C's calling convention.
 ghost use mathlib.Core.Path.{_≡_};
+ghost use Rattle.sheet.specs.Answers.{numberOf, after};
 ghost use Rattle.cut.specs.Outcome.{cutting};
-ghost use Rattle.cut_c.specs.Lent.{numberOf, shareAfter, partitionAfter};
+ghost use Rattle.cut_c.specs.Lent.{storeShare, storePartition};
 use cut::Answer;
 use sheet::Sheet;
 
@@ -9,15 +10,15 @@ use sheet::Sheet;
 // the number of the reason why the cut is refused and stores nothing.
 #[no_mangle]
 pub extern "C" fn cut_row(
-    marks: &[u16; Sheet::PIECES],
+    marks: &[u16; Sheet::ITEMS],
     set: u16,
-    bundles: u8,
+    bundles: usize,
     share: &mut u64,
-    partition: &mut [u8; Sheet::PIECES],
+    partition: &mut [u8; Sheet::ITEMS],
 ) -> u8
     ensures answer { λ r. ⌜ r ≡ numberOf (cutting (now (marks .entry)) set bundles) ⌝ }
-    ensures share { λ r. ⌜ now (share .exit) ≡ shareAfter (cutting (now (marks .entry)) set bundles) (now (share .entry)) ⌝ }
-    ensures partition { λ r. ⌜ now (partition .exit) ≡ partitionAfter (cutting (now (marks .entry)) set bundles) (now (partition .entry)) ⌝ }
+    ensures share { λ r. ⌜ now (share .exit) ≡ after storeShare (cutting (now (marks .entry)) set bundles) (now (share .entry)) ⌝ }
+    ensures partition { λ r. ⌜ now (partition .exit) ≡ after storePartition (cutting (now (marks .entry)) set bundles) (now (partition .entry)) ⌝ }
 {
     let outcome = cut::cut(*marks, set, bundles);
     let answer = outcome.answer;

@@ -6,7 +6,7 @@ use sheet::Row;
 use sheet::Sheet;
 
 fn main() {
-    // Samples g and h of document 01, and the row on which the greedy hand gets 5.
+    // Samples g and h of document 01, and the row on which "heaviest piece to the lightest pile" gives 5.
     show(row(1, 2, 3, 4, 5, 6, 7), 127, 3);
     show(row(2, 2, 2, 2, 0, 0, 0), 15, 2);
     show(row(3, 3, 2, 2, 2, 0, 0), 31, 2);
@@ -16,17 +16,17 @@ fn main() {
     show(row(1, 2, 3, 4, 5, 6, 7), 85, 2);
     // Twelve items at the greatest mark.
     show(
-        [Sheet::GREATEST_MARK as u16; Sheet::PIECES],
+        [Sheet::GREATEST_MARK as u16; Sheet::ITEMS],
         Sheet::SETS - 1,
         1,
     );
     show(
-        [Sheet::GREATEST_MARK as u16; Sheet::PIECES],
+        [Sheet::GREATEST_MARK as u16; Sheet::ITEMS],
         Sheet::SETS - 1,
         5,
     );
     show(
-        [Sheet::GREATEST_MARK as u16; Sheet::PIECES],
+        [Sheet::GREATEST_MARK as u16; Sheet::ITEMS],
         Sheet::SETS - 1,
         6,
     );
@@ -40,7 +40,7 @@ fn main() {
 
 // Seven values, and no others.
 fn row(a: u16, b: u16, c: u16, d: u16, e: u16, f: u16, g: u16) -> Row {
-    let mut values = [0u16; Sheet::PIECES];
+    let mut values = [0u16; Sheet::ITEMS];
     values[0] = a;
     values[1] = b;
     values[2] = c;
@@ -63,7 +63,7 @@ fn print_place(bundle: u8) {
     print_number(bundle as u64);
 }
 
-fn show(valuation: Row, set: u16, bundles: u8) {
+fn show(valuation: Row, set: u16, bundles: usize) {
     print(b"set ");
     print_number(set as u64);
     print(b" into ");
@@ -88,7 +88,7 @@ fn show(valuation: Row, set: u16, bundles: u8) {
 fn show_partition(partition: Partition) {
     print(b", layout");
     let mut i: usize = 0;
-    while i < Sheet::PIECES {
+    while i < Sheet::ITEMS {
         print(b" ");
         print_place(partition[i]);
         i += 1;

@@ -4,11 +4,9 @@ use mathlib.Core.Bool.{cond}
 use mathlib.Core.List.{List, [], _∷_}
 use Prim.Native.Nat.{ℕ, zero, suc, _+_, min, max}
 use lib.Dec.{leb}
-use Rattle.lists.specs.Lists.{range, nth}
-use Rattle.lists.specs.Sums.{leastOf}
+use Rattle.lists.specs.Lists.{range}
 use Rattle.lists.specs.Dictionary.{branches}
-use Rattle.cut.specs.Share.{bundleValue}
-use Rattle.cut.specs.declared.Best.{Best}
+use Rattle.cut.specs.declared.walking.Best.{Best}
 
 -- the partitions of k more items that open new bundles in order, where the bundles 1 .. used are in use
 abbrev pub growthPartitions : ℕ → ℕ → ℕ → List (List ℕ)
@@ -23,11 +21,3 @@ keep v l b = cond (leb (b .goal) v) (record { goal = v + 1; partition = l }) b
 abbrev pub scan : (List ℕ → ℕ) → (List ℕ → List ℕ) → Best → List (List ℕ) → Best
 scan v h b [] = b
 scan v h b (l ∷ ls) = scan v h (keep (v l) (h l) b) ls
-
--- the load of bundle c
-abbrev pub loadOf : List ℕ → ℕ → ℕ
-loadOf loads c = nth 0 loads c
-
--- the least of the bundles 1 .. n once the partition l of the values is put on top of the loads
-abbrev pub leastLoaded : ℕ → (ℕ → ℕ) → List ℕ → List ℕ → ℕ
-leastLoaded n load values l = leastOf (λ c. load c + bundleValue c values l) n

@@ -2,7 +2,7 @@
 use mathlib.Core.Path.{sym, ap, _∙_}
 use borrow.Author.Needs.{needs}
 use Rattle.cut.specs.Outcome.{cutting}
-use Rattle.cut_c.proofs.Lent.{lent-refused, lent-shared}
+use Rattle.cut_c.proofs.Lent.{lent-refused, lent-accepted}
 use Rattle.cut_c.proofs.cut_row.Statement.{statement}
 use Rattle.cut_c.proofs.cut_row.Tie as tie
 
@@ -17,9 +17,11 @@ enum-known-answer-2 c = search needs
 
 returns : tie.Need-returns
 returns c =
-    let a = c .before .before .before .before .before .args in
-    let told = lent-refused (a .share .now) (a .partition .now) (cutting (a .marks .now) (a .set) (a .bundles)) (c .before .answer .given .0 .0)
-    (sym (ap (λ o. o .answer) (c .before .before .before .cut .ensures)) ∙ c .before .answer .given .1) in
+    let s = c .before .before .before in
+    let a = s .before .before .args in
+    let k = cutting (a .marks .now) (a .set) (a .bundles) in
+    let told = lent-refused (a .share .now) (a .partition .now) k (c .before .answer .given .0 .0)
+    (sym (ap (λ o. o .answer) (s .cut .ensures)) ∙ c .before .answer .given .1) in
     (told .0, (told .1, told .2))
 
 returns-2 : tie.Need-returns-2
@@ -27,7 +29,8 @@ returns-2 c =
     let s = c .before .before .before .before in
     let a = s .before .before .args in
     let k = cutting (a .marks .now) (a .set) (a .bundles) in
-    let told = lent-shared (a .share .now) (a .partition .now) k (c .before .before .answer2 .given .0 .0) (sym (ap (λ o. o .answer) (s .cut .ensures)) ∙ c .before .before .answer2 .given .1) in
+    let told = lent-accepted (a .share .now) (a .partition .now) k (c .before .before .answer2 .given .0 .0)
+    (sym (ap (λ o. o .answer) (s .cut .ensures)) ∙ c .before .before .answer2 .given .1) in
     (told .0, (told .1, ap (λ o. o .partition) (s .cut .ensures) ∙ told .2))
 
 pub cut-row-spec : {M : Type 1} → statement M

@@ -1,31 +1,31 @@
 -- The proof of the cycle of calls {walk}. The measure is the number of values still to be laid.
 -- The loop's invariant: `found` is the best once the bundles up to `bundle` are tried. Assumes nothing.
-use mathlib.Core.Path.{_≡_, refl, sym, ap, _∙_}
-use mathlib.Core.List.{[], _∷_}
+use mathlib.Core.Path.{_≡_, refl, sym, ap, subst, _∙_}
+use mathlib.Core.List.{List, [], _∷_}
 use Prim.Native.Nat.{ℕ, _+_, _-_, _≤_, _<_, min}
 use native.Mathlib.Omega.{arith}
 use lib.ListN.{length, getD, take, drop}
 use mir.Syntax.{w64}
 use borrow.Kind.Array.{eInt, good-length}
 use Rattle.lists.specs.Sums.{total}
-use Rattle.lists.proofs.Passing.{empty, first-and-rest}
-use Rattle.lists.proofs.LeastOf.{leastOf-le}
+use Rattle.lists.proofs.places.Passing.{empty, first-and-rest}
+use Rattle.lists.proofs.sums.LeastOf.{leastOf-le}
 use Rattle.sheet.specs.Limits.{mostAgents}
-use Rattle.cut.specs.internal.Scan.{loadOf}
-use Rattle.cut.specs.internal.Walk.{walked}
-use Rattle.cut.proofs.Walked.{walkedUpTo, walked-short, walked-end, walked-all, walkedUpTo-next, ready-next}
+use Rattle.cut.specs.internal.Loads.{loadOf}
+use Rattle.cut.specs.internal.Walk.{Walkable, walked}
+use Rattle.cut.proofs.walking.Steps.{walkedUpTo, walked-short, walked-end, walked-all, walkedUpTo-next, walkable-next}
 use borrow.Fn.Kinds.{In}
 use borrow.Fn.PlainCycle.{Measures, is, falls, and}
-use Rattle.cut.proofs.walk.Reads as walk
-use Rattle.cut.proofs.walk.Kinds as walk-kinds
-use Rattle.cut.proofs.+walk.Lts-walk as lts
-use Rattle.cut.proofs.better.Reads as better-reads
-use Rattle.cut.proofs.greater.Reads as greater-reads
-use Rattle.cut.proofs.is_short.Reads as is-short-reads
-use Rattle.cut.proofs.least.Reads as least-reads
-use Rattle.cut.proofs.open_bundles.Reads as open-bundles-reads
-use Rattle.cut.proofs.+walk.{statement}
-use Rattle.cut.proofs.+walk.Tie.{close}
+use Rattle.cut.proofs.walking.walk.Reads as walk
+use Rattle.cut.proofs.walking.walk.Kinds as walk-kinds
+use Rattle.cut.proofs.walking.+walk.Lts-walk as lts
+use Rattle.cut.proofs.walking.better.Reads as better-reads
+use Rattle.cut.proofs.walking.greater.Reads as greater-reads
+use Rattle.cut.proofs.pruning.is_short.Reads as is-short-reads
+use Rattle.cut.proofs.loads.least.Reads as least-reads
+use Rattle.cut.proofs.walking.open_bundles.Reads as open-bundles-reads
+use Rattle.cut.proofs.walking.+walk.{statement}
+use Rattle.cut.proofs.walking.+walk.Tie.{close}
 
 abbrev μ-walk : Measures 1 walk-kinds.ps ℕ
 μ-walk κs a = length (a .0 .now)
@@ -64,12 +64,28 @@ module _ (t : ℕ) where
   abbrev Start : Type 0
   Start = lts.Start (claims t) (walk-at t) walk.Post Inv-loop μ-loop
 
-  loads-places : (s : Start) → length (s .args .t5) ≡ mostAgents
-  loads-places s = good-length (eInt w64) mostAgents (s .args .t5) _ (s .good .1 .1 .1 .1 .0)
+  abbrev AtLoop : Type 0
+  AtLoop = lts.At-loop (claims t) (walk-at t) walk.Post Inv-loop μ-loop
 
-  -- what is left to lay, where something is
-  values-are : (s : Start) → (length (s .args .values .now) ≡ 0 → ⊥) → let vs = s .args .values .now in vs ≡ getD vs 0 0 ∷ take (length vs - 1) (drop 1 vs)
-  values-are s some = first-and-rest (s .args .values .now) (omega arith)
+  -- the start, from where the loop is tested
+  abbrev start : AtLoop → Start
+  start l = l .before .before .before .before .before .before .before .before
+
+  -- the values still to be laid: the next, and those after it
+  abbrev next : AtLoop → ℕ
+  next l = getD (start l .args .values .now) 0 0
+
+  abbrev later : AtLoop → List ℕ
+  later l = let values = start l .args .values .now in take (length values - 1) (drop 1 values)
+
+  values-are : (l : AtLoop) → start l .args .values .now ≡ next l ∷ later l
+  values-are l = first-and-rest (start l .args .values .now) (omega (arith, l .before .before .before .before .before .before .if1 .left))
+
+  -- the loads have a place for each bundle
+  bundle-inside : (l : AtLoop) → l .loop .bundle < start l .args .bundles → l .loop .bundle < length (start l .args .t5)
+  bundle-inside l more =
+      let s = start l in
+      omega (arith, s .pre .1 .few-bundles, good-length (eInt w64) mostAgents (s .args .t5) _ (s .good .1 .1 .1 .1 .0))
 
   least-requires : lts.Need-least-requires (claims t) (walk-at t) walk.Post Inv-loop μ-loop
   least-requires c κs = omega arith
@@ -78,17 +94,16 @@ module _ (t : ℕ) where
   better-requires c κs =
       let s = c .before .before .before in
       let r = s .pre .1 in
-      omega (arith, r .light 0, c .least .ensures, leastOf-le (loadOf (s .args .t5)) (s .args .bundles) 1 (omega arith) (r .some-bundles))
+      omega (arith, r .sums-bounded 0, c .least .ensures, leastOf-le (loadOf (s .args .t5)) (s .args .bundles) 1 (omega arith) (r .some-bundles))
 
   returns : lts.Need-returns (claims t) (walk-at t) walk.Post Inv-loop μ-loop
   returns c =
-      let s = c .before .before .before .before in
-      let a = s .args in
+      let a = c .before .before .before .before .args in
       let none : a .values .now ≡ [] = empty (a .values .now) (omega arith) in
       rw none (rw (c .before .least .ensures) at (c .better .ensures) ∙ sym (walked-end (a .bundles) (a .at) (a .used) (a .t5) (a .partition) (a .best)))
 
   is-short-requires : lts.Need-is-short-requires (claims t) (walk-at t) walk.Post Inv-loop μ-loop
-  is-short-requires c κs = let r = c .before .before .pre .1 in (record { few = omega (arith, r .few); light = omega (arith, r .light 0) }, r .few-bundles)
+  is-short-requires c κs = let r = c .before .before .pre .1 in (omega (arith, r .sums-bounded 0), r .few-bundles)
 
   returns-2 : lts.Need-returns-2 (claims t) (walk-at t) walk.Post Inv-loop μ-loop
   returns-2 c =
@@ -121,9 +136,8 @@ module _ (t : ℕ) where
 
   add-loaded : lts.Need-add-loaded (claims t) (walk-at t) walk.Post Inv-loop μ-loop
   add-loaded c =
-      let s = c .before .before .before .before .before .before .before .before .before in
-      let r = s .pre .1 in
-      omega (arith, r .light (c .before .loop .bundle), ap total (values-are s (c .before .before .before .before .before .before .before .if1 .left)))
+      let l = c .before in
+      omega (arith, start l .pre .1 .sums-bounded (l .loop .bundle), ap total (values-are l))
 
   mul-loaded-2 : lts.Need-mul-loaded-2 (claims t) (walk-at t) walk.Post Inv-loop μ-loop
   mul-loaded-2 c = omega arith
@@ -151,13 +165,12 @@ module _ (t : ℕ) where
 
   walk-requires : lts.Need-walk-requires (claims t) (walk-at t) walk.Post Inv-loop μ-loop
   walk-requires c κs =
-      let s = c .before .before .before .before .before .before .before .before .before .before in
+      let l = c .before .before in
+      let s = start l in
       let a = s .args in
-      let vs = a .values .now in
-      let parts = values-are s (c .before .before .before .before .before .before .before .before .if1 .left) in
-      let next = ready-next (a .bundles) (a .at) (a .used) (a .t5) (a .partition) (a .best) (getD vs 0 0) (take (length vs - 1) (drop 1 vs)) (rw parts at (s .pre .1))
-      (c .before .before .loop .bundle) (omega arith) (omega (arith, s .pre .1 .few-bundles, loads-places s)) in
-      (omega (arith, s .pre .0, ap length parts), rw (c .greater .ensures) next)
+      let laid = walkable-next (a .bundles) (a .at) (a .used) (a .t5) (a .partition) (a .best) (next l) (later l)
+      (subst (λ values. Walkable values (a .bundles) (a .at) (a .used) (a .t5)) (values-are l) (s .pre .1)) (l .loop .bundle) (omega arith) (bundle-inside l (omega arith)) in
+      (omega (arith, s .pre .0, ap length (values-are l)), rw (c .greater .ensures) laid)
 
   add-bundle : lts.Need-add-bundle (claims t) (walk-at t) walk.Post Inv-loop μ-loop
   add-bundle c = omega arith
@@ -167,27 +180,22 @@ module _ (t : ℕ) where
 
   loop-again : lts.Need-loop-again (claims t) (walk-at t) walk.Post Inv-loop μ-loop
   loop-again c =
-      let at-loop = c .before .before .before in
-      let s = at-loop .before .before .before .before .before .before .before .before in
-      let a = s .args in
-      let vs = a .values .now in (
+      let l = c .before .before .before in
+      let a = start l .args in (
         omega arith,
-        rw (c .before .greater .ensures, at-loop .loop .inv .1) at (c .walk .ensures)
-            ∙ sym (walkedUpTo-next (a .bundles) (a .at) (a .used) (a .t5) (a .partition) (a .best) (getD vs 0 0) (take (length vs - 1) (drop 1 vs)) (at-loop .loop .bundle)
-            (omega (arith, s .pre .1 .few-bundles, loads-places s))),
+        rw (c .before .greater .ensures, l .loop .inv .1) at (c .walk .ensures)
+            ∙ sym (walkedUpTo-next (a .bundles) (a .at) (a .used) (a .t5) (a .partition) (a .best) (next l) (later l) (l .loop .bundle) (bundle-inside l (omega arith))),
       )
 
   returns-3 : lts.Need-returns-3 (claims t) (walk-at t) walk.Post Inv-loop μ-loop
   returns-3 c =
-      let s = c .before .before .before .before .before .before .before .before .before in
-      let a = s .args in
-      let vs = a .values .now in
-      let parts = values-are s (c .before .before .before .before .before .before .before .if1 .left) in
-      let e : c .before .loop .bundle ≡ min (a .used + 1) (a .bundles) = omega (arith, c .before .before .open-bundles .ensures) in
-      c .before .loop .inv .1
-      ∙ ap (walkedUpTo (a .bundles) (a .at) (a .used) (a .t5) (a .partition) (a .best) (getD vs 0 0) (take (length vs - 1) (drop 1 vs))) e
-      ∙ sym (walked-all (a .bundles) (a .at) (a .used) (a .t5) (a .partition) (a .best) (getD vs 0 0) (take (length vs - 1) (drop 1 vs)))
-      ∙ ap (λ l. walked l (a .bundles) (a .at) (a .used) (a .t5) (a .partition) (a .best)) (sym parts)
+      let l = c .before in
+      let a = start l .args in
+      let all : l .loop .bundle ≡ min (a .used + 1) (a .bundles) = omega (arith, l .before .open-bundles .ensures) in
+      l .loop .inv .1
+      ∙ ap (walkedUpTo (a .bundles) (a .at) (a .used) (a .t5) (a .partition) (a .best) (next l) (later l)) all
+      ∙ sym (walked-all (a .bundles) (a .at) (a .used) (a .t5) (a .partition) (a .best) (next l) (later l))
+      ∙ ap (λ values. walked values (a .bundles) (a .at) (a .used) (a .t5) (a .partition) (a .best)) (sym (values-are l))
 
 pub +walk-spec : {M : Type 1} → statement M
 +walk-spec =

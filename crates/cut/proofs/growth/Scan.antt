@@ -9,9 +9,9 @@ use lib.Dec.{leb}
 use borrow.Author.Tests.{leb-true, leb-false, lt-leb, le-leb, eq-eqb, ne-eqb}
 use Rattle.lists.specs.Dictionary.{greatest, firstAt}
 use Rattle.lists.proofs.Cases.{lt-or-ge}
-use Rattle.lists.proofs.First.{le-greatest}
+use Rattle.lists.proofs.dictionary.First.{le-greatest}
 use Rattle.cut.specs.internal.Scan.{keep, scan}
-use Rattle.cut.specs.declared.Best.{Best}
+use Rattle.cut.specs.declared.walking.Best.{Best}
 
 module _ (v : ℕ) (l : List ℕ) (b : Best) where
   pub keep-new : b .goal ≤ v → keep v l b ≡ record { goal = v + 1; partition = l }

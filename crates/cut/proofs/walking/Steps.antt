@@ -4,7 +4,7 @@ use mathlib.Core.Bool.{true}
 use mathlib.Core.Logic.{⊎-elim}
 use mathlib.Core.List.{List, [], _∷_, _++_}
 use Prim.Native.Nat.{ℕ, _+_, _<_, min, max}
-use native.Mathlib.Nat.{add-zero, add-comm}
+use native.Mathlib.Nat.{add-zero}
 use native.Mathlib.Numerals.{add-one}
 use native.Mathlib.Omega.{arith}
 use lib.ListN.{length, getD, set}
@@ -13,17 +13,19 @@ use Rattle.lists.specs.Lists.{range}
 use Rattle.lists.specs.Sums.{leastOf}
 use Rattle.lists.specs.Dictionary.{branches}
 use Rattle.lists.proofs.Cases.{eq-or-ne}
-use Rattle.lists.proofs.Ranges.{range-append}
-use Rattle.lists.proofs.LeastOf.{leastOf-cong}
-use Rattle.lists.proofs.Listed.{branches-append}
+use Rattle.lists.proofs.places.Passing.{range-next}
+use Rattle.lists.proofs.sums.LeastOf.{leastOf-cong}
+use Rattle.lists.proofs.dictionary.Listed.{branches-append}
 use Rattle.cut.specs.Share.{bundleValue}
-use Rattle.cut.specs.internal.Scan.{growthPartitions, keep, scan, loadOf, leastLoaded}
-use Rattle.cut.specs.internal.Walk.{isShort, Ready, walked}
-use Rattle.cut.specs.declared.Best.{Best}
-use Rattle.cut.proofs.Scan.{scan-append, scan-idle}
-use Rattle.cut.proofs.Growth.{loaded, scan-branch}
-use Rattle.cut.proofs.Threshold.{short-of-goal}
-use Rattle.cut.proofs.Loads.{load-stored}
+use Rattle.cut.specs.internal.Loads.{loadOf, leastLoaded}
+use Rattle.cut.specs.internal.Scan.{growthPartitions, keep, scan}
+use Rattle.cut.specs.internal.Pruning.{isShort}
+use Rattle.cut.specs.internal.Walk.{Walkable, walked}
+use Rattle.cut.specs.declared.walking.Best.{Best}
+use Rattle.cut.proofs.growth.Scan.{scan-append, scan-idle}
+use Rattle.cut.proofs.growth.Enough.{scan-branch}
+use Rattle.cut.proofs.pruning.Threshold.{isShort-below-goal}
+use Rattle.cut.proofs.loads.Stored.{loaded, loaded-stored}
 
 module _ (bundles at used : ℕ) (loads partition : List ℕ) (best : Best) where
   -- where the values cannot supply what the bundles lack, nothing is better
@@ -31,7 +33,7 @@ module _ (bundles at used : ℕ) (loads partition : List ℕ) (best : Best) wher
   unfolding walked
   walked-short values short =
       scan-idle (leastLoaded bundles (loadOf loads) values) (sets partition at) best (growthPartitions bundles used (length values))
-      (λ l _. short-of-goal (best .goal) (loadOf loads) bundles values l short)
+      (λ l _. isShort-below-goal (best .goal) (loadOf loads) bundles values l short)
 
   -- all values are laid
   pub walked-end : walked [] bundles at used loads partition best ≡ keep (leastOf (loadOf loads) bundles) partition best
@@ -61,11 +63,11 @@ module _ (bundles at used : ℕ) (loads partition : List ℕ) (best : Best) wher
         let c = bundle + 1 in
         let next : ℕ → List (List ℕ) = λ c. growthPartitions bundles (max used c) (length rest) in
         let load = loadOf loads in
-        let more : range 1 c ≡ range 1 bundle ++ (c ∷ []) = range-append 1 bundle 1 ∙ ap (λ k. range 1 bundle ++ (k ∷ [])) (add-comm 1 bundle) in
+        let more : range 1 c ≡ range 1 bundle ++ (c ∷ []) = range-next bundle in
         let reach = leastLoaded bundles load (value ∷ rest) in
         let tried = walkedUpTo bundle in
         let stored : (λ l. leastLoaded bundles (loaded load c value) rest l) ≡ leastLoaded bundles (loadOf (set loads bundle (getD loads bundle 0 + value))) rest =
-        fun-ext (λ l. leastOf-cong _ _ bundles (λ d pos _. ap (λ x. x + bundleValue d rest l) (load-stored loads bundle value d inside pos))) in
+        fun-ext (λ l. leastOf-cong _ _ bundles (λ d pos _. ap (λ x. x + bundleValue d rest l) (loaded-stored loads bundle value d inside pos))) in
         ap (λ r. scan reach (sets partition at) best (branches next r)) more
         ∙ ap (scan reach (sets partition at) best) (branches-append next (range 1 bundle) (c ∷ []))
         ∙ scan-append reach (sets partition at) best (branches next (range 1 bundle)) (branches next (c ∷ []))
@@ -73,17 +75,17 @@ module _ (bundles at used : ℕ) (loads partition : List ℕ) (best : Best) wher
         ∙ ap₂ (λ v k. scan v (sets (set partition at c) k) tried (next c)) stored (sym (add-one at))
 
     -- the next value is laid
-    pub ready-next : Ready (value ∷ rest) bundles at used loads → (bundle : ℕ) → bundle < bundles → bundle < length loads
-        → Ready rest bundles (at + 1) (max used (bundle + 1)) (set loads bundle (getD loads bundle 0 + value))
-    ready-next r bundle in-bundles inside =
+    pub walkable-next : Walkable (value ∷ rest) bundles at used loads → (bundle : ℕ) → bundle < bundles → bundle < length loads
+        → Walkable rest bundles (at + 1) (max used (bundle + 1)) (set loads bundle (getD loads bundle 0 + value))
+    walkable-next r bundle in-bundles inside =
         let m = getD loads bundle 0 + value in
         record {
           few = omega (arith, r .few);
           some-bundles = r .some-bundles;
           few-bundles = r .few-bundles;
           opened = omega (arith, r .opened);
-          light = λ i. ⊎-elim
-              (λ (e : i ≡ bundle). rw (e, getD-set-same loads bundle m 0 inside) (omega (arith, r .light bundle)))
-              (λ ne. rw (getD-set-other loads bundle i m 0 ne) (omega (arith, r .light i)))
+          sums-bounded = λ i. ⊎-elim
+              (λ (e : i ≡ bundle). rw (e, getD-set-same loads bundle m 0 inside) (omega (arith, r .sums-bounded bundle)))
+              (λ ne. rw (getD-set-other loads bundle i m 0 ne) (omega (arith, r .sums-bounded i)))
               (eq-or-ne i bundle);
         }

@@ -1,0 +1,2 @@
+-- Laws of the loads of bundles.
+pub mod Stored

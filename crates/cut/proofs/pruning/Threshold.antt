@@ -1,0 +1,61 @@
+-- When a branch of the walk may be left: no partition reaches a goal of which, counted up to some threshold, the bundles lack more
+-- than the values supply. Assumes nothing.
+use mathlib.Core.Path.{_≡_, sym, ap, _∙_}
+use mathlib.Core.Bool.{true, false, true≢false}
+use mathlib.Core.Logic.{⊎-elim}
+use mathlib.Core.List.{List, [], _∷_}
+use Prim.Native.Nat.{ℕ, _+_, _-_, _≤_, _<_, min}
+use native.Mathlib.Omega.{arith}
+use lib.ListN.{length, getD, drop}
+use borrow.Author.Tests.{le-ltb}
+use Rattle.lists.specs.Lists.{range}
+use Rattle.lists.specs.Sums.{total}
+use Rattle.lists.proofs.Cases.{lt-or-ge}
+use Rattle.lists.proofs.ranges.Ranges.{in-range}
+use Rattle.lists.proofs.members.Counting.{mem-any, any-none}
+use Rattle.lists.proofs.places.Passing.{drop-next}
+use Rattle.lists.proofs.sums.LeastOf.{leastOf-le}
+use Rattle.lists.proofs.sums.Sums.{sumOf-zero, sumOf-mono}
+use Rattle.cut.specs.Share.{bundleValue}
+use Rattle.cut.specs.internal.Loads.{leastLoaded}
+use Rattle.cut.specs.internal.Pruning.{supply, demand, isShortAt, isShort}
+use Rattle.cut.proofs.Partitions.{sumOf-bundleValue}
+
+pub supply-le-total : (most : ℕ) (values : List ℕ) → supply most values ≤ total values
+supply-le-total most [] = omega arith
+supply-le-total most (v ∷ values) = omega (arith, supply-le-total most values)
+
+-- what the values from i on supply: value i, and the others
+pub supply-drop : (most : ℕ) (values : List ℕ) (i : ℕ) → i < length values
+    → supply most (drop i values) ≡ min (getD values i 0) most + supply most (drop (i + 1) values)
+supply-drop most values i inside = ap (supply most) (drop-next values i inside)
+
+pub demand-zero : (goal : ℕ) (load : ℕ → ℕ) (n : ℕ) → demand goal load n 0 ≡ 0
+demand-zero goal load n = sumOf-zero (λ c. min (goal - load c) 0) n (λ c. omega arith)
+
+module _ (goal : ℕ) (load : ℕ → ℕ) (n : ℕ) where
+  -- where a partition reaches the goal, the values supply what the bundles lack, at every threshold
+  demand-le-supply : (most : ℕ) (values l : List ℕ) → goal ≤ leastLoaded n load values l → demand goal load n most ≤ supply most values
+  demand-le-supply most values l reached = omega (
+    arith,
+    sumOf-bundleValue (λ v. min v most) (omega arith) (λ x y. omega arith) n values l,
+    sumOf-mono (λ c. min (goal - load c) most) (λ c. min (bundleValue c values l) most) n
+        (λ c lo hi. omega (arith, leastOf-le (λ d. load d + bundleValue d values l) n c lo hi)),
+  )
+
+  -- where the test fails at some threshold, no partition of the values reaches the goal
+  pub isShort-below-goal : (values l : List ℕ) → isShort goal load n values ≡ true → leastLoaded n load values l < goal
+  isShort-below-goal values l short =
+      ⊎-elim
+      (λ lt. lt)
+      (λ reached. absurd (true≢false (sym short ∙ any-none (isShortAt goal load n values) (range 1 n) (λ c m. le-ltb _ _ (demand-le-supply (goal - load c) values l reached)))))
+      (lt-or-ge (leastLoaded n load values l) goal)
+
+  module _ (values : List ℕ) where
+    -- one bundle at which the test fails is enough
+    pub isShort-at : (c : ℕ) → 1 ≤ c → c ≤ n → isShortAt goal load n values c ≡ true → isShort goal load n values ≡ true
+    isShort-at c lo hi short = mem-any (isShortAt goal load n values) (in-range 1 n c lo (omega arith)) short
+
+    -- the test passes at a bundle that lacks nothing
+    pub isShortAt-reached : (c : ℕ) → goal ≤ load c → isShortAt goal load n values c ≡ false
+    isShortAt-reached c reached = let none : goal - load c ≡ 0 = omega arith in rw none (le-ltb (supply 0 values) (demand goal load n 0) (omega (arith, demand-zero goal load n)))

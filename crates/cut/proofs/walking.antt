@@ -1,0 +1,3 @@
+-- Laws of the walk: one step of it, and all of it.
+pub mod Steps
+pub mod Whole
