@@ -1,0 +1,2 @@
+-- Laws of the bundles of a partition.
+pub mod Bundles

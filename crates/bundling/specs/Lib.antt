@@ -1,0 +1,2 @@
+-- The bundles (piles) of a partition (layout).
+pub mod Bundles
