@@ -1,0 +1,3 @@
+-- Laws of the grade.
+pub mod Tests
+pub mod Grades

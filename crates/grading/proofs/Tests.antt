@@ -1,0 +1,47 @@
+-- The three tests of the grade by amounts compared agent by agent. Assumes nothing.
+use mathlib.Core.Path.{_≡_, refl, sym, _∙_}
+use mathlib.Core.List.{List, [], List·Memᴰ as Mem}
+use Prim.Native.Nat.{ℕ}
+use Rattle.lists.specs.Lists.{range, nth}
+use Rattle.lists.proofs.sums.GreatestOf.{leb-greatestOf}
+use Rattle.lists.proofs.places.Places.{nth-padded-range}
+use Rattle.lists.proofs.members.Tests.{all-cong}
+use Rattle.sheet.specs.Limits.{mostAgents}
+use Rattle.sheet.specs.Amounts.{eachAtMost}
+use Rattle.sheet.proofs.amounts.Comparing.{eachAtMost-all}
+use Rattle.grading.specs.Grade.{valueTo, envyFree, proportional, maximinFair}
+use Rattle.grading.specs.internal.Compared.{ownValue, greatestValue, evenPart, compared}
+
+module _ (n : ℕ) (valuations bundles : List (List ℕ)) where
+  own-read : (i : ℕ) → Mem i (range 1 n) → nth 0 (compared n valuations bundles .own) i ≡ ownValue n valuations bundles i
+  unfolding compared
+  own-read i m = nth-padded-range mostAgents 0 0 (ownValue n valuations bundles) n m
+
+  greatest-read : (i : ℕ) → Mem i (range 1 n) → nth 0 (compared n valuations bundles .greatest) i ≡ greatestValue n valuations bundles i
+  unfolding compared
+  greatest-read i m = nth-padded-range mostAgents 0 0 (greatestValue n valuations bundles) n m
+
+  even-read : (i : ℕ) → Mem i (range 1 n) → nth 0 (compared n valuations bundles .even) i ≡ evenPart n valuations bundles i
+  unfolding compared
+  even-read i m = nth-padded-range mostAgents 0 0 (evenPart n valuations bundles) n m
+
+  module _ (shares : List ℕ) where
+    -- no envy: the greatest value that an agent sees is at most that of its own bundle
+    pub envyFree-compared : envyFree n valuations shares bundles ≡ eachAtMost (compared n valuations bundles .greatest) (compared n valuations bundles .own) n
+    unfolding envyFree
+    envyFree-compared =
+        let c = compared n valuations bundles in
+        sym (eachAtMost-all (c .greatest) (c .own) (greatestValue n valuations bundles) (ownValue n valuations bundles) n greatest-read own-read
+        ∙ all-cong _ _ (range 1 n) (λ i m. leb-greatestOf (valueTo n valuations [] bundles i) n (ownValue n valuations bundles i)))
+
+    -- even: its total divided by the number of agents is at most that
+    pub proportional-compared : proportional n valuations shares bundles ≡ eachAtMost (compared n valuations bundles .even) (compared n valuations bundles .own) n
+    unfolding proportional
+    proportional-compared =
+        let c = compared n valuations bundles in
+        sym (eachAtMost-all (c .even) (c .own) (evenPart n valuations bundles) (ownValue n valuations bundles) n even-read own-read)
+
+    -- the whole share: its share is at most that
+    pub maximinFair-compared : maximinFair n valuations shares bundles ≡ eachAtMost shares (compared n valuations bundles .own) n
+    unfolding maximinFair
+    maximinFair-compared = sym (eachAtMost-all shares (compared n valuations bundles .own) (nth 0 shares) (ownValue n valuations bundles) n (λ i m. refl) own-read)

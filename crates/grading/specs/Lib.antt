@@ -1,0 +1,3 @@
+-- The grade of an allocation (document 01, "Grades").
+pub mod Grade
+pub mod internal

@@ -1,0 +1,31 @@
+-- What the tests of the grade compare, for each agent. Assumes nothing: these are definitions.
+use mathlib.Core.List.{List, [], map}
+use Prim.Native.Nat.{ℕ, _/_}
+use Rattle.lists.specs.Lists.{range, padded}
+use Rattle.lists.specs.Sums.{total, greatestOf}
+use Rattle.sheet.specs.Limits.{mostAgents}
+use Rattle.sheet.specs.Tables.{valuation}
+use Rattle.grading.specs.Grade.{valueTo}
+use Rattle.grading.specs.declared.Compared.{Compared}
+
+module _ (n : ℕ) (valuations bundles : List (List ℕ)) where
+  -- the value of agent i's own bundle
+  abbrev pub ownValue : ℕ → ℕ
+  ownValue i = valueTo n valuations [] bundles i i
+
+  -- the greatest value that agent i sees in any bundle
+  abbrev pub greatestValue : ℕ → ℕ
+  greatestValue i = greatestOf (valueTo n valuations [] bundles i) n
+
+  -- the total of agent i divided by the number of agents, rounded down
+  abbrev pub evenPart : ℕ → ℕ
+  evenPart i = total (valuation valuations i) / n
+
+  -- a place for each agent
+  unfoldable pub compared : Compared
+  compared =
+      record {
+        own = padded mostAgents 0 (map ownValue (range 1 n));
+        greatest = padded mostAgents 0 (map greatestValue (range 1 n));
+        even = padded mostAgents 0 (map evenPart (range 1 n));
+      }

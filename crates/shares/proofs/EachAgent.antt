@@ -1,0 +1,73 @@
+-- The shares and the cuts of a table, one agent after the other. Assumes nothing.
+use mathlib.Core.Path.{_≡_, sym, ap, ap₂, _∙_}
+use mathlib.Core.List.{List, map, map-map}
+use Prim.Native.Nat.{ℕ, _*_, _^_, _≤_, _<_, min}
+use native.Mathlib.Nat.{pow-le-pow-right}
+use native.Mathlib.Omega.{arith}
+use lib.Dec.{leb}
+use Rattle.lists.specs.Lists.{range, padded, all}
+use Rattle.lists.specs.Sums.{total}
+use Rattle.lists.proofs.members.Tests.{all-map}
+use Rattle.sheet.specs.Limits.{mostAgents, mostItems, InUse}
+use Rattle.sheet.specs.Answers.{accepted}
+use Rattle.sheet.specs.Sets.{setOf}
+use Rattle.sheet.specs.Tables.{valuation, allValues, profile}
+use Rattle.sheet.proofs.sets.Ranges.{setOf-upTo}
+use Rattle.sheet.proofs.sets.Remainders.{values-all}
+use Rattle.cut.specs.Share.{maximinShare, maximinPartition}
+use Rattle.cut.specs.Outcome.{cutting, cuttingOf}
+use Rattle.cut.proofs.Laws.{cutting-accepted}
+use Rattle.shares.specs.Shares.{shareOf, sharesCovered}
+use Rattle.shares.specs.Outcome.{cutOf, blankCut, outcome}
+use Rattle.shares.specs.declared.Answer.the-variants.{Shared}
+use Rattle.shares.specs.declared.Cut.{Cut}
+use Rattle.shares.specs.declared.Outcome.{Outcome}
+
+-- within the limits the cut of all items is not refused
+pub cutting-all : (row : List ℕ) (n m : ℕ) → InUse n m → cutting row (setOf (range 1 (min m mostItems))) n ≡ accepted (cuttingOf n (allValues m row))
+cutting-all row n m in-use =
+    let few : m ≤ mostItems = in-use .few-items in
+    let e : min m mostItems ≡ m = omega arith in
+    let power : 2 ^ m ≤ 2 ^ mostItems = pow-le-pow-right {n = 2} (omega arith) few in
+    let small : setOf (range 1 m) < 2 ^ mostItems = omega (arith, setOf-upTo m) in
+    ap (λ k. cutting row (setOf (range 1 k)) n) e
+    ∙ cutting-accepted row (setOf (range 1 m)) n (in-use .some) (in-use .few) small
+    ∙ ap (λ values. accepted (cuttingOf n values)) (values-all m (omega arith) row)
+
+-- shares and cuts, a place for each agent
+abbrev pub sharedAs : List ℕ → List Cut → Outcome
+sharedAs shares cuts = record { answer = Shared; shares = padded mostAgents 0 shares; cuts = padded mostAgents blankCut cuts }
+
+module _ (n m : ℕ) (table : List (List ℕ)) where
+  -- the cut of agent i
+  abbrev pub cutAt : ℕ → Cut
+  cutAt i = cutOf (maximinPartition n (allValues m (valuation table i)))
+
+  -- the value of all items to agent i
+  abbrev pub totalOf : ℕ → ℕ
+  totalOf i = total (allValues m (valuation table i))
+
+  -- the shares, the cuts and the test of refusal 9 by the agents' numbers
+  pub shares-range : map (maximinShare n) (profile n m table) ≡ map (shareOf n m table) (range 1 n)
+  unfolding profile
+  shares-range = map-map (maximinShare n) (λ i. allValues m (valuation table i)) (range 1 n)
+
+  pub cuts-range : map cutOf (map (maximinPartition n) (profile n m table)) ≡ map cutAt (range 1 n)
+  unfolding profile
+  cuts-range =
+      let row : ℕ → List ℕ = λ i. allValues m (valuation table i) in
+      ap (map cutOf) (map-map (maximinPartition n) row (range 1 n)) ∙ map-map cutOf (λ i. maximinPartition n (row i)) (range 1 n)
+
+  pub sharesCovered-range : sharesCovered n (profile n m table) ≡ all (λ i. leb (n * shareOf n m table i) (totalOf i)) (range 1 n)
+  unfolding sharesCovered profile
+  sharesCovered-range = all-map (λ values. leb (n * maximinShare n values) (total values)) (λ i. allValues m (valuation table i)) (range 1 n)
+
+  pub outcome-each : outcome (accepted (map (cuttingOf n) (profile n m table))) ≡ sharedAs (map (maximinShare n) (profile n m table)) (map cutOf (map (maximinPartition n) (profile n m table)))
+  outcome-each =
+      let rows = profile n m table in
+      ap₂ sharedAs
+      (map-map (λ c. c .share) (cuttingOf n) rows)
+      (map-map (λ c. cutOf (c .partition)) (cuttingOf n) rows ∙ sym (map-map cutOf (maximinPartition n) rows))
+
+  pub outcome-range : outcome (accepted (map (cuttingOf n) (profile n m table))) ≡ sharedAs (map (shareOf n m table) (range 1 n)) (map cutAt (range 1 n))
+  outcome-range = outcome-each ∙ ap₂ sharedAs shares-range cuts-range

@@ -1,0 +1,6 @@
+-- Laws of the shares of a table and of its refusals.
+pub mod Profile
+pub mod Refusals
+pub mod Marks
+pub mod EachAgent
+pub mod Outcomes

@@ -1,0 +1,56 @@
+-- What the answer on a table has, where its counts are within the limits and where they are not. Assumes nothing.
+use mathlib.Core.Path.{_≡_, sym, ap, _∙_}
+use mathlib.Core.Logic.{⊎-elim}
+use mathlib.Core.List.{List, map, List·Memᴰ as Mem}
+use Prim.Native.Nat.{ℕ}
+use native.Mathlib.Omega.{arith}
+use Rattle.lists.specs.Lists.{range, nth, padded}
+use Rattle.lists.proofs.places.Places.{nth-padded-range}
+use Rattle.sheet.specs.Limits.{mostAgents, CountsWithin}
+use Rattle.sheet.specs.Answers.{Answer, refused, accepted}
+use Rattle.sheet.specs.Tables.{profile}
+use Rattle.cut.specs.Share.{maximinShare, maximinPartition}
+use Rattle.cut.specs.Outcome.{Cutting}
+use Rattle.shares.specs.Shares.{shareOf, sharing}
+use Rattle.shares.specs.Outcome.{cutOf, blankCut, outcome}
+use Rattle.shares.specs.declared.Answer.the-variants.{Refused, Shared}
+use Rattle.shares.proofs.Refusals.{sharing-within, sharing-cases}
+use Rattle.shares.proofs.EachAgent.{sharedAs, cutAt, outcome-each, outcome-range}
+
+-- the code's answer is a refusal only where the answer is
+pub answered-refused : (a : Answer (List Cutting)) (number : ℕ) → outcome a .answer ≡ Refused number → a ≡ refused number
+answered-refused (refused number′) number e = let same : number′ ≡ number = cc in ap refused same
+answered-refused (accepted cuttings) number e = let z : _≡_ {A = ℕ} 0 1 = cc in absurd (omega arith)
+
+module _ (n m : ℕ) (table : List (List ℕ)) where
+  -- shares are answered only where the counts are within the limits
+  pub answered-shared : outcome (sharing n m table) .answer ≡ Shared → CountsWithin n m
+  answered-shared e =
+      ⊎-elim
+      (λ w. w)
+      (λ (r : (number : ℕ) × (sharing n m table ≡ refused number)). let other : Refused (r .0) ≡ Shared = sym (ap (λ a. outcome a .answer) (r .1)) ∙ e in let z : _≡_ {A = ℕ} 0 1 = cc in absurd (omega arith))
+      (sharing-cases n m table)
+
+  module _ (counts : CountsWithin n m) where
+    -- and there they are
+    pub outcome-within : outcome (sharing n m table) ≡ sharedAs (map (maximinShare n) (profile n m table)) (map cutOf (map (maximinPartition n) (profile n m table)))
+    outcome-within = ap outcome (sharing-within n m table counts) ∙ outcome-each n m table
+
+    pub answer-within : outcome (sharing n m table) .answer ≡ Shared
+    answer-within = ap (λ o. o .answer) outcome-within
+
+    pub shares-within : outcome (sharing n m table) .shares ≡ padded mostAgents 0 (map (maximinShare n) (profile n m table))
+    shares-within = ap (λ o. o .shares) outcome-within
+
+    pub cuts-within : outcome (sharing n m table) .cuts ≡ padded mostAgents blankCut (map cutOf (map (maximinPartition n) (profile n m table)))
+    cuts-within = ap (λ o. o .cuts) outcome-within
+
+    by-number : outcome (sharing n m table) ≡ sharedAs (map (shareOf n m table) (range 1 n)) (map (cutAt n m table) (range 1 n))
+    by-number = ap outcome (sharing-within n m table counts) ∙ outcome-range n m table
+
+    -- the share and the cut of an agent in use
+    pub nth-share : {agent : ℕ} → Mem agent (range 1 n) → nth 0 (outcome (sharing n m table) .shares) agent ≡ shareOf n m table agent
+    nth-share {agent} in-use = ap (λ o. nth 0 (o .shares) agent) by-number ∙ nth-padded-range mostAgents 0 0 (shareOf n m table) n in-use
+
+    pub nth-cut : {agent : ℕ} → Mem agent (range 1 n) → nth blankCut (outcome (sharing n m table) .cuts) agent ≡ cutAt n m table agent
+    nth-cut {agent} in-use = ap (λ o. nth blankCut (o .cuts) agent) by-number ∙ nth-padded-range mostAgents blankCut blankCut (cutAt n m table) n in-use

@@ -1,0 +1,137 @@
+// The maximin share and the cut of each agent (yard) of a table, or the refusal of the table.
+ghost use mathlib.Core.Path.{_≡_};
+ghost use mathlib.Core.List.{map};
+ghost use Prim.Native.Nat.{_≤_};
+ghost use Rattle.sheet.specs.Limits.{greatestSum, InUse};
+ghost use Rattle.sheet.specs.Answers.{refused, accepted};
+ghost use Rattle.sheet.specs.Tables.{allValues, profile};
+ghost use Rattle.sheet.specs.Amounts.{SmallAmounts};
+ghost use Rattle.cut.specs.Outcome.{cuttingOf};
+ghost use Rattle.shares.specs.Shares.{sharesCovered, sharing};
+ghost use Rattle.shares.specs.Outcome.{outcome};
+ghost use Rattle.shares.specs.internal.OwnCuts.{ownCut, SharesOf};
+use cut::Partition;
+use sheet::Row;
+use sheet::Sheet;
+use sheet::Table;
+use sheet::amounts::Amounts;
+use sheet::amounts::each_at_most;
+use sheet::is_within;
+use sheet::naming::all_items;
+use sheet::valuing::value_of;
+
+// The cut of all items by one agent: the bundle of each item, 0 after the last.
+pub struct Cut {
+    pub partition: Partition,
+}
+
+// The number of the reason why the table is refused, or that its agents have shares.
+pub enum Answer {
+    Refused(u8),
+    Shared,
+}
+
+// The answer, and each agent's share and cut; blank after the last agent, and where the table is refused.
+pub struct Outcome {
+    pub answer: Answer,
+    pub shares: Amounts,
+    pub cuts: [Cut; Sheet::AGENTS],
+}
+
+// The share and the cut of one agent.
+struct OwnCut {
+    share: u64,
+    cut: Cut,
+}
+
+// The share and the cut of the items from 1 to `items` in `bundles` bundles.
+fn own_cut(valuation: Row, items: usize, bundles: usize) -> OwnCut
+    requires { ⌜ InUse bundles items ⌝ }
+    ensures { λ r. ⌜ (r ≡ ownCut bundles (allValues items valuation)) × (r .share ≤ greatestSum) ⌝ }
+{
+    let outcome = cut::cut(valuation, all_items(items), bundles);
+    let answer = outcome.answer;
+    let partition = outcome.partition;
+    let cut = Cut { partition };
+    match answer {
+        cut::Answer::Share(share) => OwnCut { share, cut },
+        cut::Answer::Refused(_) => OwnCut { share: 0, cut },
+    }
+}
+
+// The share and the cut of each agent: over all items, and in as many bundles as there are agents.
+fn own_cuts(table: Table, agents: usize, items: usize) -> Outcome
+    requires { ⌜ InUse agents items ⌝ }
+    ensures { λ r. ⌜ (r ≡ outcome (accepted (map (cuttingOf agents) (profile agents items table)))) × SmallAmounts (r .shares) ⌝ }
+{
+    let blank = Cut {
+        partition: [0; Sheet::ITEMS],
+    };
+    let mut shares = [0u64; Sheet::AGENTS];
+    let mut cuts = [blank; Sheet::AGENTS];
+    let mut i: usize = 0;
+    while i < agents {
+        let valuation = table[i];
+        let own = own_cut(valuation, items, agents);
+        let cut = own.cut;
+        shares[i] = own.share;
+        cuts[i] = cut;
+        i += 1;
+    }
+    Outcome {
+        answer: Answer::Shared,
+        shares,
+        cuts,
+    }
+}
+
+// The makers' check, refusal 9: whether no agent's share times the number of agents exceeds the sum of its marks.
+fn shares_covered(table: Table, agents: usize, items: usize, shares: Amounts) -> bool
+    requires { ⌜ SharesOf agents items table shares ⌝ }
+    ensures { λ r. ⌜ r ≡ sharesCovered agents (profile agents items table) ⌝ }
+{
+    let set = all_items(items);
+    let mut multiples = [0u64; Sheet::AGENTS];
+    let mut totals = [0u64; Sheet::AGENTS];
+    let mut i: usize = 0;
+    while i < agents {
+        let row = table[i];
+        multiples[i] = agents as u64 * shares[i];
+        totals[i] = value_of(row, set);
+        i += 1;
+    }
+    each_at_most(multiples, totals, agents)
+}
+
+// A refusal, with no share and no cut.
+fn refuse(number: u8) -> Outcome
+    ensures { λ r. ⌜ (r ≡ outcome (refused number)) × SmallAmounts (r .shares) ⌝ }
+{
+    let blank = Cut {
+        partition: [0; Sheet::ITEMS],
+    };
+    Outcome {
+        answer: Answer::Refused(number),
+        shares: [0; Sheet::AGENTS],
+        cuts: [blank; Sheet::AGENTS],
+    }
+}
+
+// The maximin share and the cut of each agent. Refused with 4 or 5 where the agents or the items lie outside the limits, and with 9
+// where the makers' check fails.
+pub fn share_each(table: Table, agents: usize, items: usize) -> Outcome
+    ensures { λ r. ⌜ (r ≡ outcome (sharing agents items table)) × SmallAmounts (r .shares) ⌝ }
+{
+    if !is_within(agents, Sheet::AGENTS) {
+        return refuse(4);
+    }
+    if !is_within(items, Sheet::ITEMS) {
+        return refuse(5);
+    }
+    let own = own_cuts(table, agents, items);
+    let shares = own.shares;
+    if !shares_covered(table, agents, items, shares) {
+        return refuse(9);
+    }
+    own
+}
