@@ -1,25 +1,16 @@
 -- The bundles that a matching chooses, also where there is none: they are free, distinct, and at most one for each agent. Assumes nothing.
-use mathlib.Core.Path.{_≡_, refl, ap}
-use mathlib.Core.Bool.{Bool, true, false, cond, and-eq-true-iff}
-use mathlib.Core.Logic.{_⊎_, inl, inr, ⊎-elim}
-use mathlib.Core.List.{List, [], _∷_, List·Memᴰ as Mem, List·Memᴰ·head as here, List·Memᴰ·tail as there, List·Memᴰ·not-nil as not-nil}
+use mathlib.Core.Path.{_≡_, ap}
+use mathlib.Core.Bool.{Bool, true, and-eq-true-iff}
+use mathlib.Core.Logic.{_⊎_, ⊎-elim}
+use mathlib.Core.List.{List, [], List·Memᴰ as Mem, List·Memᴰ·not-nil as not-nil}
 use Prim.Native.Nat.{ℕ, _≤_}
 use native.Mathlib.Omega.{arith}
 use lib.ListN.{length}
 use Rattle.lists.specs.Lists.{distinct}
-use Rattle.lists.specs.Dictionary.{listsOver, firstThat}
-use Rattle.lists.proofs.Listed.{listsOver-in}
+use Rattle.lists.specs.Dictionary.{listsOver}
+use Rattle.lists.proofs.dictionary.First.{firstThat-cases}
+use Rattle.lists.proofs.dictionary.Listed.{listsOver-in}
 use Rattle.matching.specs.Matching.{suited, matches, matching}
-
--- the first that passes the test is one that does, or there is none
-firstThat-cases : (p : List ℕ → Bool) (ls : List (List ℕ)) → (firstThat p ls ≡ []) ⊎ (Mem (firstThat p ls) ls × (p (firstThat p ls) ≡ true))
-firstThat-cases p [] = inl refl
-firstThat-cases p (l ∷ ls) = step (p l) refl (firstThat-cases p ls)
-  where
-    step : (b : Bool) → p l ≡ b → (firstThat p ls ≡ []) ⊎ (Mem (firstThat p ls) ls × (p (firstThat p ls) ≡ true))
-        → (cond b l (firstThat p ls) ≡ []) ⊎ (Mem (cond b l (firstThat p ls)) (l ∷ ls) × (p (cond b l (firstThat p ls)) ≡ true))
-    step true e later = inr (here refl, e)
-    step false e later = ⊎-elim (λ none. inl none) (λ found. inr (there (found .0), found .1)) later
 
 module _ (suits : ℕ → ℕ → Bool) (served free : List ℕ) where
   cases : (matching suits served free ≡ [])

@@ -3,14 +3,13 @@ use mathlib.Core.Path.{_≡_, refl, ap, ap₂}
 use mathlib.Core.Bool.{Bool, not, _&&_}
 use mathlib.Core.List.{List, [], _∷_, List·Memᴰ as Mem, List·Memᴰ·head as here, List·Memᴰ·tail as there}
 use Prim.Native.Nat.{ℕ}
-use lib.Dec.{leb}
 use lib.ListN.{length}
 use Rattle.lists.specs.Lists.{distinct}
 use Rattle.lists.specs.Dictionary.{listsOver, sublists, firstBest}
-use Rattle.lists.proofs.Counting.{sublist-mem}
-use Rattle.lists.proofs.Congruence.{filter-cong, any-cong, count-cong, firstThat-cong}
-use Rattle.lists.proofs.Sublists.{sublists-mem}
-use Rattle.lists.proofs.Listed.{listsOver-in}
+use Rattle.lists.proofs.members.Counting.{sublist-mem}
+use Rattle.lists.proofs.members.Congruence.{filter-cong, any-cong, count-cong, firstThat-cong}
+use Rattle.lists.proofs.ranges.Sublists.{sublists-mem}
+use Rattle.lists.proofs.dictionary.Listed.{listsOver-in}
 use Rattle.matching.specs.Matching.{wanted, tight, waitingSet, freeBundles, suited, matches, matching}
 
 module _ (s t : ℕ → ℕ → Bool) where
@@ -26,7 +25,7 @@ module _ (s t : ℕ → ℕ → Bool) where
       filter-cong (λ c. not (wanted s waiting c)) (λ c. not (wanted t waiting c)) bundles (λ c m. ap not (wanted-cong waiting bundles same c m))
 
   tight-cong : (agents bundles : List ℕ) → Agree agents bundles → tight s bundles agents ≡ tight t bundles agents
-  tight-cong agents bundles same = ap (λ n. leb n (length agents)) (count-cong (wanted s agents) (wanted t agents) bundles (wanted-cong agents bundles same))
+  tight-cong agents bundles same = rw (count-cong (wanted s agents) (wanted t agents) bundles (wanted-cong agents bundles same))
 
   pub waitingSet-cong : (others bundles : List ℕ) → Agree others bundles → waitingSet s others bundles ≡ waitingSet t others bundles
   unfolding waitingSet

@@ -7,12 +7,11 @@ use Prim.Native.Nat.{ℕ, _+_, _≤_, _<_}
 use native.Mathlib.Omega.{arith, by-contra}
 use lib.ListN.{length}
 use Rattle.lists.specs.Lists.{bit, distinct}
-use Rattle.lists.proofs.Counting.{Submultiset, Witness, bit-any, count-add-le, count-lt, count-true}
-use Rattle.lists.proofs.Sublists.{UnionMeet, union-meet}
-use Rattle.lists.proofs.Distinct.{submultiset-distinct, submultiset-mem}
-use Rattle.matching.specs.Matching.{wanted, neighbours, waitingSet, suited}
+use Rattle.lists.proofs.members.Counting.{Submultiset, Witness, bit-any, count-add-le, count-lt, count-true}
+use Rattle.lists.proofs.ranges.Sublists.{UnionMeet, union-meet}
+use Rattle.lists.proofs.members.Distinct.{submultiset-distinct, submultiset-mem}
+use Rattle.matching.specs.Matching.{wanted, neighbours, waitingSet, suited, Matched}
 use Rattle.matching.proofs.Waiting.{LargestTight, waitingSet-largest}
-use Rattle.matching.proofs.Matching.{Matched}
 
 or-left : (a b : Bool) → a || b ≡ true → b ≡ false → a ≡ true
 or-left true b p q = refl

@@ -1,4 +1,5 @@
 -- Laws of the waiting set and of the matching, Hall's theorem among them.
+pub mod Cutter
 pub mod Waiting
 pub mod Matching
 pub mod Congruence
@@ -6,3 +7,6 @@ pub mod Chosen
 pub mod Hall
 pub mod Serving
 pub mod Ties
+pub mod Suited
+pub mod Tight
+pub mod Parts

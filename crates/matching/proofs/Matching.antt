@@ -6,17 +6,11 @@ use Prim.Native.Nat.{ℕ, suc}
 use lib.ListN.{length}
 use Rattle.lists.specs.Dictionary.{listsOver}
 use Rattle.lists.specs.Lists.{distinct}
-use Rattle.lists.proofs.First.{firstThat-passes}
-use Rattle.lists.proofs.Listed.{in-listsOver, listsOver-in}
-use Rattle.matching.specs.Matching.{suited, matches, matching}
+use Rattle.lists.proofs.dictionary.First.{firstThat-passes}
+use Rattle.lists.proofs.dictionary.Listed.{in-listsOver, listsOver-in}
+use Rattle.matching.specs.Matching.{suited, matches, Matched, matching}
 
 module _ (suits : ℕ → ℕ → Bool) where
-  -- each agent is given one of the bundles that suits it, and no bundle is given twice
-  pub record Matched (agents bundles chosen : List ℕ) : Type 0 where
-    pub suits-each : suited suits agents chosen ≡ true
-    pub injective : distinct chosen ≡ true
-    pub from-bundles : (bundle : ℕ) → Mem bundle chosen → Mem bundle bundles
-
   pub suited-length : (agents chosen : List ℕ) → suited suits agents chosen ≡ true → length chosen ≡ length agents
   suited-length [] [] e = refl
   suited-length [] (bundle ∷ chosen) e = absurd (false≢true e)
@@ -24,7 +18,7 @@ module _ (suits : ℕ → ℕ → Bool) where
   suited-length (agent ∷ agents) (bundle ∷ chosen) e =
       ap suc (suited-length agents chosen (and-eq-true-iff (suits agent bundle) (suited suits agents chosen) .0 e .1))
 
-  pub matching-matched : (agents bundles chosen : List ℕ) → Matched agents bundles chosen → Matched agents bundles (matching suits agents bundles)
+  pub matching-matched : (agents bundles chosen : List ℕ) → Matched suits agents bundles chosen → Matched suits agents bundles (matching suits agents bundles)
   unfolding matching
   matching-matched agents bundles chosen s =
       let lists = listsOver bundles (length agents) in

@@ -7,128 +7,135 @@ use Prim.Native.Nat.{ℕ, _+_, _≤_, _<_}
 use native.Mathlib.Omega.{arith, by-contra}
 use lib.Dec.{eqb}
 use lib.ListN.{length}
-use borrow.Author.Tests.{ne-eqb}
+use borrow.Author.Tests.{eq-eqb, ne-eqb}
 use Rattle.lists.specs.Lists.{bit, reject, elem, distinct}
-use Rattle.lists.proofs.Counting.{mem-any, reject-mem, reject-sublist, sublist-mem, sublist-filter, length-sublist, length-reject, bit-any, count-sublist, count-le-reject, count-all, count-true, count-none}
-use Rattle.lists.proofs.Sublists.{UnionMeet, union-meet}
-use Rattle.lists.proofs.Distinct.{mem-elem, elem-mem, submultiset-distinct, submultiset-mem, count-elem, distinct-covers}
-use Rattle.matching.specs.Matching.{without, servedAgents, wanted, neighbours, waitingSet, freeBundles, matching}
+use Rattle.lists.proofs.members.Counting.{mem-any, mem-filter, reject-mem, reject-sublist, sublist-mem, sublist-filter, length-sublist, length-reject, bit-any, count-sublist, count-le-reject, count-all, count-true, count-none}
+use Rattle.lists.proofs.ranges.Ranges.{length-range}
+use Rattle.lists.proofs.ranges.Sublists.{UnionMeet, union-meet}
+use Rattle.lists.proofs.members.Distinct.{mem-elem, elem-mem, not-mem-elem, submultiset-distinct, submultiset-mem, count-elem, distinct-covers, range-distinct}
+use Rattle.matching.specs.Matching.{without, wanted, neighbours, Matched, cutterOf, bundleNumbers, waitingOf, servedOf, freeOf, chosenOf}
+use Rattle.matching.proofs.Cutter.{cutterOf-mem}
 use Rattle.matching.proofs.Waiting.{LargestTight, waitingSet-largest}
-use Rattle.matching.proofs.Matching.{Matched, suited-length, matching-matched}
+use Rattle.matching.proofs.Matching.{suited-length, matching-matched}
 use Rattle.matching.proofs.Hall.{HallCondition, hall}
 
-module _ (suits : ℕ → ℕ → Bool) (cutter : ℕ) (agents bundles : List ℕ) where
+module _ (suits : ℕ → ℕ → Bool) (agents : List ℕ) where
   abbrev others : List ℕ
-  others = without cutter agents
-
-  abbrev waiting : List ℕ
-  waiting = waitingSet suits others bundles
+  others = without (cutterOf agents) agents
 
   abbrev is-waiting : ℕ → Bool
-  is-waiting agent = elem agent waiting
+  is-waiting agent = elem agent (waitingOf suits agents)
 
-  abbrev served : List ℕ
-  served = servedAgents waiting agents
+  pub waitingOf-largest : LargestTight suits others (bundleNumbers agents) (waitingOf suits agents)
+  waitingOf-largest = waitingSet-largest suits _ _
 
-  abbrev free : List ℕ
-  free = freeBundles suits waiting bundles
+  pub waiting-sublist : Sublist (waitingOf suits agents) agents
+  waiting-sublist = sublist-trans (waitingOf-largest .sublist) (reject-sublist (eqb (cutterOf agents)) agents)
 
-  largest : LargestTight suits others bundles waiting
-  largest = waitingSet-largest suits others bundles
+  pub waiting-fewer : 1 ≤ length agents → length (waitingOf suits agents) < length agents
+  waiting-fewer some = omega (
+    arith,
+    length-sublist (waitingOf-largest .sublist),
+    length-reject (eqb (cutterOf agents)) agents,
+    bit-any (eqb (cutterOf agents)) agents,
+    ap bit (mem-elem (cutterOf-mem agents some)),
+  )
 
-  pub waiting-sublist : Sublist waiting agents
-  waiting-sublist = sublist-trans (largest .sublist) (reject-sublist (eqb cutter) agents)
+  -- "The other yards, the cutter among them"
+  pub cutterOf-served : 1 ≤ length agents → Mem (cutterOf agents) (servedOf suits agents)
+  cutterOf-served some = mem-filter (λ a. not (is-waiting a)) (cutterOf-mem agents some) (ap not (not-mem-elem (cutterOf agents) (waitingOf suits agents) not-waiting))
+    where
+      not-waiting : Mem (cutterOf agents) (waitingOf suits agents) → ⊥
+      not-waiting m =
+          true≢false (sym (eq-eqb (cutterOf agents) (cutterOf agents) refl)
+          ∙ reject-mem (eqb (cutterOf agents)) agents (sublist-mem (waitingOf-largest .sublist) m) .1)
 
-  pub waiting-fewer : Mem cutter agents → length waiting < length agents
-  waiting-fewer m = omega (arith, length-sublist (largest .sublist), length-reject (eqb cutter) agents, bit-any (eqb cutter) agents, ap bit (mem-elem m))
-
-  served-waiting-le : length served + length waiting ≤ length agents
+  served-waiting-le : length (servedOf suits agents) + length (waitingOf suits agents) ≤ length agents
   served-waiting-le = omega (
     arith,
     length-reject is-waiting agents,
     count-sublist waiting-sublist is-waiting,
-    count-all is-waiting waiting (λ agent m. mem-elem m),
+    count-all is-waiting (waitingOf suits agents) (λ agent m. mem-elem m),
   )
 
-  pub served-or-waiting : distinct agents ≡ true → length served + length waiting ≡ length agents
-  served-or-waiting d = omega (arith, served-waiting-le, length-reject is-waiting agents, count-elem waiting agents d)
+  pub served-or-waiting : distinct agents ≡ true → length (servedOf suits agents) + length (waitingOf suits agents) ≡ length agents
+  served-or-waiting d = omega (arith, served-waiting-le, length-reject is-waiting agents, count-elem (waitingOf suits agents) agents d)
 
   -- a bundle that is handed out suits no agent that waits
-  pub free-unsuited : (agent bundle : ℕ) → Mem agent waiting → Mem bundle free → suits agent bundle ≡ false
+  pub free-unsuited : (agent bundle : ℕ) → Mem agent (waitingOf suits agents) → Mem bundle (freeOf suits agents) → suits agent bundle ≡ false
   free-unsuited agent bundle m f = step (suits agent bundle) refl
     where
       step : (b : Bool) → suits agent bundle ≡ b → suits agent bundle ≡ false
-      step true e = absurd (true≢false (sym (mem-any (λ a. suits a bundle) m e) ∙ reject-mem (wanted suits waiting) bundles f .1))
+      step true e = absurd (true≢false (sym (mem-any (λ a. suits a bundle) m e) ∙ reject-mem (wanted suits (waitingOf suits agents)) (bundleNumbers agents) f .1))
       step false e = e
 
   -- without the cutter: a set with too few free neighbours would make a larger waiting set
-  others-condition : HallCondition suits (reject is-waiting others) free
-  others-condition zs s = by-contra (length zs) (neighbours suits zs free) too-few
+  others-condition : HallCondition suits (reject is-waiting others) (freeOf suits agents)
+  others-condition zs s = by-contra (length zs) (neighbours suits zs (freeOf suits agents)) too-few
     where
-      u : UnionMeet waiting zs others
-      u = union-meet (largest .sublist) (sublist-trans s (reject-sublist is-waiting others))
+      u : UnionMeet (waitingOf suits agents) zs others
+      u = union-meet (waitingOf-largest .sublist) (sublist-trans s (reject-sublist is-waiting others))
 
       disjoint : length (u .meet) ≡ 0
       disjoint = omega (
         arith,
-        count-all is-waiting (u .meet) (λ agent m. mem-elem (submultiset-mem (u .meet) waiting (u .left) agent m)),
+        count-all is-waiting (u .meet) (λ agent m. mem-elem (submultiset-mem (u .meet) (waitingOf suits agents) (u .left) agent m)),
         u .right is-waiting,
         count-sublist s is-waiting,
         count-none is-waiting (reject is-waiting others) (λ agent m. reject-mem is-waiting others m .1),
       )
 
-      sizes : length (u .union) ≡ length waiting + length zs
-      sizes = omega (arith, disjoint, u .total (λ a. true), count-true (u .union), count-true (u .meet), count-true waiting, count-true zs)
+      sizes : length (u .union) ≡ length (waitingOf suits agents) + length zs
+      sizes = omega (arith, disjoint, u .total (λ a. true), count-true (u .union), count-true (u .meet), count-true (waitingOf suits agents), count-true zs)
 
-      outside : neighbours suits (u .union) bundles ≤ neighbours suits waiting bundles + neighbours suits zs free
-      outside = count-le-reject (wanted suits (u .union)) (wanted suits waiting) (wanted suits zs)
-          (λ b. omega (arith, bit-any (λ a. suits a b) (u .union), bit-any (λ a. suits a b) waiting, bit-any (λ a. suits a b) zs, u .total (λ a. suits a b))) bundles
+      outside : neighbours suits (u .union) (bundleNumbers agents) ≤ neighbours suits (waitingOf suits agents) (bundleNumbers agents) + neighbours suits zs (freeOf suits agents)
+      outside = count-le-reject (wanted suits (u .union)) (wanted suits (waitingOf suits agents)) (wanted suits zs)
+          (λ b. omega (arith, bit-any (λ a. suits a b) (u .union), bit-any (λ a. suits a b) (waitingOf suits agents), bit-any (λ a. suits a b) zs, u .total (λ a. suits a b))) (bundleNumbers agents)
 
-      too-few : neighbours suits zs free < length zs → ⊥
-      too-few lt = omega (arith, sizes, largest .largest (u .union) (u .union-sub) (omega (arith, outside, sizes, largest .bound)))
+      too-few : neighbours suits zs (freeOf suits agents) < length zs → ⊥
+      too-few lt = omega (arith, sizes, waitingOf-largest .largest (u .union) (u .union-sub) (omega (arith, outside, sizes, waitingOf-largest .bound)))
 
-  module _ (suits-cutter : (bundle : ℕ) → Mem bundle bundles → suits cutter bundle ≡ true) (bundle-each : length bundles ≡ length agents) where
+  module _ (suits-cutter : (bundle : ℕ) → Mem bundle (bundleNumbers agents) → suits (cutterOf agents) bundle ≡ true) where
     -- with the cutter: every free bundle is a neighbour
-    cutter-condition : (zs : List ℕ) → Sublist zs served → Mem cutter zs → length zs ≤ neighbours suits zs free
+    cutter-condition : (zs : List ℕ) → Sublist zs (servedOf suits agents) → Mem (cutterOf agents) zs → length zs ≤ neighbours suits zs (freeOf suits agents)
     cutter-condition zs s m = omega (
       arith,
-      bundle-each,
+      length-range 1 (length agents),
       length-sublist s,
       served-waiting-le,
-      largest .bound,
-      length-reject (wanted suits waiting) bundles,
-      count-all (wanted suits zs) free (λ b f. mem-any (λ a. suits a b) m (suits-cutter b (reject-mem (wanted suits waiting) bundles f .0))),
+      waitingOf-largest .bound,
+      length-reject (wanted suits (waitingOf suits agents)) (bundleNumbers agents),
+      count-all (wanted suits zs) (freeOf suits agents) (λ b f. mem-any (λ a. suits a b) m (suits-cutter b (reject-mem (wanted suits (waitingOf suits agents)) (bundleNumbers agents) f .0))),
     )
 
     -- agents served without the cutter are others that do not wait
-    other-served : (zs : List ℕ) → Sublist zs served → elem cutter zs ≡ false → Sublist zs (reject is-waiting others)
+    other-served : (zs : List ℕ) → Sublist zs (servedOf suits agents) → elem (cutterOf agents) zs ≡ false → Sublist zs (reject is-waiting others)
     other-served zs s out =
         sublist-filter (λ a. not (is-waiting a))
-        (sublist-filter (λ a. not (eqb cutter a)) (sublist-trans s (reject-sublist is-waiting agents)) not-cutter)
+        (sublist-filter (λ a. not (eqb (cutterOf agents) a)) (sublist-trans s (reject-sublist is-waiting agents)) not-cutter)
         (λ a m. ap not (reject-mem is-waiting agents (sublist-mem s m) .1))
       where
-        not-cutter : (a : ℕ) → Mem a zs → not (eqb cutter a) ≡ true
-        not-cutter a m = ap not (ne-eqb cutter a (λ e. true≢false (sym (mem-elem (Memᴰ·cast e m)) ∙ out)))
+        not-cutter : (a : ℕ) → Mem a zs → not (eqb (cutterOf agents) a) ≡ true
+        not-cutter a m = ap not (ne-eqb (cutterOf agents) a (λ e. true≢false (sym (mem-elem (Memᴰ·cast e m)) ∙ out)))
 
-    served-condition : HallCondition suits served free
-    served-condition zs s = step (elem cutter zs) refl
+    served-condition : HallCondition suits (servedOf suits agents) (freeOf suits agents)
+    served-condition zs s = step (elem (cutterOf agents) zs) refl
       where
-        step : (b : Bool) → elem cutter zs ≡ b → length zs ≤ neighbours suits zs free
-        step true e = cutter-condition zs s (elem-mem cutter zs e)
+        step : (b : Bool) → elem (cutterOf agents) zs ≡ b → length zs ≤ neighbours suits zs (freeOf suits agents)
+        step true e = cutter-condition zs s (elem-mem (cutterOf agents) zs e)
         step false e = others-condition zs (other-served zs s e)
 
-    module _ (distinct-bundles : distinct bundles ≡ true) where
-      -- all agents that do not wait are served
-      pub served-matched : Matched suits served free (matching suits served free)
-      served-matched =
-          let free-distinct = submultiset-distinct free bundles (count-sublist (reject-sublist (wanted suits waiting) bundles)) distinct-bundles in
-          let (chosen, s) = hall suits served free free-distinct served-condition in
-          matching-matched suits served free chosen s
+    -- all agents that do not wait are served
+    pub served-matched : Matched suits (servedOf suits agents) (freeOf suits agents) (chosenOf suits agents)
+    served-matched =
+        let free-distinct = submultiset-distinct (freeOf suits agents) (bundleNumbers agents) (count-sublist (reject-sublist (wanted suits (waitingOf suits agents)) (bundleNumbers agents))) (range-distinct 1 (length agents)) in
+        let (chosen, s) = hall suits (servedOf suits agents) (freeOf suits agents) free-distinct served-condition in
+        matching-matched suits (servedOf suits agents) (freeOf suits agents) chosen s
 
-      -- where no agent waits, every bundle is handed out
-      pub none-waiting-all-handed : distinct agents ≡ true → length waiting ≡ 0 → (bundle : ℕ) → Mem bundle bundles → Mem bundle (matching suits served free)
-      none-waiting-all-handed d none =
-          let s = served-matched in
-          let chosen = matching suits served free in
-          distinct-covers chosen bundles (s .injective) (λ b m. reject-mem (wanted suits waiting) bundles (s .from-bundles b m) .0)
-          (omega (arith, bundle-each, served-or-waiting d, suited-length suits served chosen (s .suits-each)))
+    -- where no agent waits, every bundle is handed out
+    pub none-waiting-all-handed : distinct agents ≡ true → length (waitingOf suits agents) ≡ 0 → (bundle : ℕ) → Mem bundle (bundleNumbers agents) → Mem bundle (chosenOf suits agents)
+    none-waiting-all-handed d none =
+        let s = served-matched in
+        let chosen = chosenOf suits agents in
+        distinct-covers chosen (bundleNumbers agents) (s .injective) (λ b m. reject-mem (wanted suits (waitingOf suits agents)) (bundleNumbers agents) (s .from-bundles b m) .0)
+        (omega (arith, length-range 1 (length agents), served-or-waiting d, suited-length suits (servedOf suits agents) chosen (s .suits-each)))

@@ -1,21 +1,21 @@
--- The tie rule: the waiting set and the matching are the first of their kind in dictionary order. Assumes nothing.
+-- The tie rule: the waiting set and the matching are the first of their kind in dictionary order, also those of a round. Assumes nothing.
 use mathlib.Core.Path.{_≡_, sym, _∙_}
 use mathlib.Core.Bool.{Bool}
 use mathlib.Core.List.{List, List·Memᴰ as Mem}
 use mathlib.Core.List.{Sublistᴰ as Sublist}
-use Prim.Native.Nat.{ℕ, _≤_}
+use Prim.Native.Nat.{ℕ, _≤_, _<_}
 use lib.Dec.{eqb}
 use lib.ListN.{length}
 use borrow.Author.Tests.{eq-eqb}
-use Rattle.lists.specs.Lists.{filter}
+use Rattle.lists.specs.Lists.{filter, Rising}
 use Rattle.lists.specs.Dictionary.{listsOver, greatest, Precedes, sublists}
-use Rattle.lists.proofs.First.{firstBest-reaches}
-use Rattle.lists.proofs.Listed.{in-listsOver}
-use Rattle.lists.proofs.Dictionary.{InOrder, Rising, pairwise-sublist, listsOver-in-order, sublists-in-order, firstThat-in-order}
-use Rattle.lists.proofs.Counting.{filter-sublist}
-use Rattle.matching.specs.Matching.{neighbours, tight, waitingSet, matches, matching}
+use Rattle.lists.proofs.dictionary.First.{firstBest-reaches}
+use Rattle.lists.proofs.dictionary.Listed.{in-listsOver}
+use Rattle.lists.proofs.dictionary.Dictionary.{InOrder, range-rising, pairwise-sublist, listsOver-in-order, sublists-in-order, firstThat-in-order}
+use Rattle.lists.proofs.members.Counting.{filter-sublist, reject-sublist}
+use Rattle.matching.specs.Matching.{without, wanted, neighbours, tight, waitingSet, matches, Matched, matching, cutterOf, bundleNumbers, waitingOf, servedOf, freeOf, chosenOf}
 use Rattle.matching.proofs.Waiting.{mem-tight}
-use Rattle.matching.proofs.Matching.{Matched, suited-length, matching-matched}
+use Rattle.matching.proofs.Matching.{suited-length, matching-matched}
 
 module _ (suits : ℕ → ℕ → Bool) where
   -- no other largest tight set comes before the waiting set
@@ -42,3 +42,16 @@ module _ (suits : ℕ → ℕ → Bool) where
       firstThat-in-order (matches suits agents) (listsOver bundles (length agents)) (listsOver-in-order bundles (length agents) rising)
       (rw same at (in-listsOver bundles chosen (s .from-bundles))) (rw (s .suits-each, s .injective))
       (suited-length suits agents (matching suits agents bundles) (first .suits-each) ∙ sym same)
+
+-- a round of agents left in rising order
+module _ (suits : ℕ → ℕ → Bool) (agents : List ℕ) where
+  pub waitingOf-first : Rising agents → (zs : List ℕ) → Sublist zs (without (cutterOf agents) agents) → neighbours suits zs (bundleNumbers agents) ≤ length zs
+      → length (waitingOf suits agents) ≡ length zs → Precedes (waitingOf suits agents) zs
+  waitingOf-first rising =
+      waitingSet-precedes suits (without (cutterOf agents) agents) (bundleNumbers agents)
+      (pairwise-sublist (λ x y. x < y) (reject-sublist (eqb (cutterOf agents)) agents) rising)
+
+  pub chosenOf-first : (chosen : List ℕ) → Matched suits (servedOf suits agents) (freeOf suits agents) chosen → Precedes (chosenOf suits agents) chosen
+  chosenOf-first chosen =
+      matching-precedes suits (servedOf suits agents) (freeOf suits agents) chosen
+      (pairwise-sublist (λ x y. x < y) (reject-sublist (wanted suits (waitingOf suits agents)) (bundleNumbers agents)) (range-rising 1 (length agents)))

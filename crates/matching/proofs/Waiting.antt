@@ -1,6 +1,6 @@
 -- Laws of the waiting set: it is tight, and no tight set is larger. Assumes nothing.
-use mathlib.Core.Path.{refl}
-use mathlib.Core.Bool.{Bool}
+use mathlib.Core.Path.{_≡_, refl}
+use mathlib.Core.Bool.{Bool, true}
 use mathlib.Core.List.{List, [], List·Memᴰ as Mem}
 use mathlib.Core.List.{Sublistᴰ as Sublist, Sublistᴰ·nil-sublist as nil-sublist}
 use Prim.Native.Nat.{ℕ, _≤_}
@@ -9,9 +9,9 @@ use lib.ListN.{length}
 use borrow.Author.Tests.{leb-true, le-leb}
 use Rattle.lists.specs.Lists.{filter}
 use Rattle.lists.specs.Dictionary.{sublists}
-use Rattle.lists.proofs.First.{le-greatest, firstBest-reaches}
-use Rattle.lists.proofs.Counting.{mem-filter, filter-mem, count-none}
-use Rattle.lists.proofs.Sublists.{sublists-mem, mem-sublists}
+use Rattle.lists.proofs.dictionary.First.{le-greatest, firstBest-reaches}
+use Rattle.lists.proofs.members.Counting.{mem-filter, filter-mem, count-none}
+use Rattle.lists.proofs.ranges.Sublists.{sublists-mem, mem-sublists}
 use Rattle.matching.specs.Matching.{wanted, neighbours, tight, waitingSet}
 
 module _ (suits : ℕ → ℕ → Bool) where
@@ -21,7 +21,9 @@ module _ (suits : ℕ → ℕ → Bool) where
     pub largest : (zs : List ℕ) → Sublist zs agents → neighbours suits zs bundles ≤ length zs → length zs ≤ length set
 
   pub mem-tight : (agents bundles : List ℕ) {zs : List ℕ} → Sublist zs agents → neighbours suits zs bundles ≤ length zs → Mem zs (filter (tight suits bundles) (sublists agents))
-  mem-tight agents bundles {zs} s le = mem-filter (tight suits bundles) (mem-sublists s) (le-leb (neighbours suits zs bundles) (length zs) le)
+  mem-tight agents bundles {zs} s le =
+      let enough : tight suits bundles zs ≡ true = search (le-leb, arith) in
+      mem-filter (tight suits bundles) (mem-sublists s) enough
 
   pub waitingSet-largest : (agents bundles : List ℕ) → LargestTight agents bundles (waitingSet suits agents bundles)
   unfolding waitingSet

@@ -1,0 +1,78 @@
+-- The parts of one round of agents that a sheet can have: who waits and who is served rises again, and the bundles are those of a sheet.
+-- Assumes nothing.
+use mathlib.Core.Path.{_≡_, refl, ap, ap₂, _∙_}
+use mathlib.Core.Bool.{Bool}
+use mathlib.Core.List.{List, []}
+use mathlib.Core.List.{Sublistᴰ as Sublist, Sublistᴰ·trans as sublist-trans}
+use Prim.Native.Nat.{ℕ, _^_, _≤_, _<_}
+use native.Mathlib.Omega.{arith}
+use lib.ListN.{length}
+use Rattle.lists.specs.Lists.{range, Within}
+use Rattle.lists.proofs.ranges.Ranges.{within-mem, mem-within, range-sublist}
+use Rattle.lists.proofs.members.Counting.{sublist-mem}
+use Rattle.lists.proofs.ranges.RangeSublists.{range-sublist-few}
+use Rattle.sheet.specs.Limits.{mostAgents, setBits}
+use Rattle.sheet.specs.Sets.{itemsOf, setOf}
+use Rattle.sheet.specs.Listed.{numbered}
+use Rattle.sheet.proofs.sets.Sets.{items-setOf}
+use Rattle.sheet.proofs.sets.Ranges.{setOf-below}
+use Rattle.matching.specs.Matching.{waitingSet, matching, cutterOf, bundleNumbers, waitingOf, servedOf, freeOf, chosenOf}
+use Rattle.matching.proofs.Serving.{waiting-sublist}
+use Rattle.matching.proofs.Serving as matching
+use Rattle.matching.proofs.Parts.{servedOf-sublist, freeOf-sublist, chosenOf-within, chosenOf-few, waitingOf-cong, servedOf-cong, chosenOf-cong}
+use Rattle.matching.proofs.Congruence.{Agree}
+use Rattle.serving.specs.Serving.{agentsIn, servingOf}
+use Rattle.serving.specs.declared.Serving.{Serving}
+use Rattle.serving.proofs.round.AgentsLeft.{agentsIn-items}
+
+module _ (suits : ℕ → ℕ → Bool) {agents : List ℕ} (rising : Sublist agents (range 1 mostAgents)) where
+  pub waiting-rising : Sublist (waitingOf suits agents) (range 1 mostAgents)
+  waiting-rising = sublist-trans (waiting-sublist suits agents) rising
+
+  pub served-rising : Sublist (servedOf suits agents) (range 1 mostAgents)
+  served-rising = sublist-trans (servedOf-sublist suits agents) rising
+
+  bundles-sublist : Sublist (range 1 (length agents)) (range 1 mostAgents)
+  bundles-sublist = range-sublist 1 (length agents) mostAgents (range-sublist-few mostAgents rising)
+
+  pub free-rising : Sublist (freeOf suits agents) (range 1 mostAgents)
+  free-rising = sublist-trans (freeOf-sublist suits agents) bundles-sublist
+
+  pub chosen-within : Within mostAgents (chosenOf suits agents)
+  chosen-within =
+      mem-within mostAgents (chosenOf suits agents)
+      (λ bundle m. sublist-mem bundles-sublist (within-mem (length agents) (chosenOf suits agents) (chosenOf-within suits agents) bundle m))
+
+  pub chosen-few : length (chosenOf suits agents) ≤ mostAgents
+  chosen-few = omega (arith, chosenOf-few suits agents, range-sublist-few mostAgents served-rising)
+
+  -- the set of the agents that wait, and the agents in it
+  pub waiting-below : setOf (waitingOf suits agents) < 2 ^ mostAgents
+  waiting-below = setOf-below mostAgents waiting-rising
+
+  pub waiting-named : Sublist (waitingOf suits agents) (range 1 setBits)
+  waiting-named = sublist-trans waiting-rising (range-sublist 1 mostAgents setBits (omega arith))
+
+  pub items-waiting : itemsOf (setOf (waitingOf suits agents)) ≡ waitingOf suits agents
+  items-waiting = items-setOf (waitingOf suits agents) waiting-named
+
+  pub agentsIn-waiting : agentsIn (setOf (waitingOf suits agents)) ≡ waitingOf suits agents
+  agentsIn-waiting = agentsIn-items (setOf (waitingOf suits agents)) waiting-below ∙ items-waiting
+
+  -- where an agent is left, fewer wait
+  pub waiting-fewer : 1 ≤ length agents → length (agentsIn (setOf (waitingOf suits agents))) < length agents
+  waiting-fewer some = rw agentsIn-waiting (matching.waiting-fewer suits agents some)
+
+-- where no agent is left, there is no cutter, and nothing is served
+pub servingOf-none : (suits : ℕ → ℕ → Bool) → servingOf suits (agentsIn 0) ≡ record { cutter = 0; served = numbered []; chosen = numbered []; waiting = 0 }
+unfolding servingOf itemsOf waitingSet matching
+servingOf-none suits = refl
+
+-- a round goes by what suits the agents left with its bundles, and by nothing else
+pub servingOf-cong : (s t : ℕ → ℕ → Bool) (agents : List ℕ) → Agree s t agents (bundleNumbers agents) → servingOf s agents ≡ servingOf t agents
+unfolding servingOf
+servingOf-cong s t agents same =
+    let made : List ℕ → List ℕ → List ℕ → Serving = λ served chosen waiting.
+    record { cutter = cutterOf agents; served = numbered served; chosen = numbered chosen; waiting = setOf waiting } in
+    ap₂ (λ served chosen. made served chosen (waitingOf s agents)) (servedOf-cong s t agents same) (chosenOf-cong s t agents same)
+    ∙ ap (made (servedOf t agents) (chosenOf t agents)) (waitingOf-cong s t agents same)

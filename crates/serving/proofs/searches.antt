@@ -1,0 +1,3 @@
+-- One step after the other of the two searches.
+pub mod LargestTight
+pub mod FirstMatching

@@ -1,0 +1,57 @@
+// The agents that wait: the first largest tight set of the agents without the cutter.
+ghost use mathlib.Core.Path.{_≡_};
+ghost use Prim.Native.Nat.{_≤_};
+ghost use Rattle.lists.specs.Lists.{range};
+ghost use Rattle.sheet.specs.Limits.{mostAgents};
+ghost use Rattle.sheet.specs.Listed.{numbered, listed};
+ghost use Rattle.matching.specs.Matching.{tight, waitingOf};
+ghost use Rattle.serving.specs.Serving.{suitsOf};
+ghost use Rattle.serving.specs.internal.Listing.{IsNumbered, OfSheet, RisingAgents};
+ghost use Rattle.serving.specs.internal.Searching.{Searching, largestTight};
+use crate::Suits;
+use crate::suiting::free;
+use sheet::listing::Numbers;
+use sheet::listing::append;
+use sheet::listing::none;
+
+// Whether at most as many of the bundles 1 .. bundles suit some of the agents as there are agents: all other bundles suit none.
+fn is_tight(suits: Suits, agents: Numbers, bundles: usize) -> bool
+    requires { ⌜ OfSheet agents × (bundles ≤ mostAgents) ⌝ }
+    ensures { λ r. ⌜ r ≡ tight (suitsOf suits) (range 1 bundles) (listed agents) ⌝ }
+{
+    let unwanted = free(suits, agents, bundles);
+    bundles <= unwanted.count + agents.count
+}
+
+// The first largest of `best` and the tight sets that have the agents chosen and some of the others.
+fn largest(suits: Suits, others: &[u8], bundles: usize, chosen: Numbers, best: Numbers) -> Numbers
+    requires { ⌜ IsNumbered chosen × IsNumbered best × Searching (now others) bundles (listed chosen) ⌝ }
+    ensures { λ r. ⌜ r ≡ numbered (largestTight (suitsOf suits) (now (others .entry)) bundles (listed chosen) (listed best)) ⌝ }
+{
+    if chosen.count + others.len() <= best.count {
+        return best;
+    }
+    if others.len() == 0 {
+        if is_tight(suits, chosen, bundles) {
+            return chosen;
+        }
+        return best;
+    }
+    let agent = others[0];
+    let rest = &others[1..];
+    let better = largest(suits, rest, bundles, append(chosen, agent), best);
+    largest(suits, rest, bundles, chosen, better)
+}
+
+// The agents that wait: the cutter, who is the first, does not.
+pub(crate) fn waiting(suits: Suits, agents: Numbers) -> Numbers
+    requires { ⌜ RisingAgents agents ⌝ }
+    ensures { λ r. ⌜ r ≡ numbered (waitingOf (suitsOf suits) (listed agents)) ⌝ }
+{
+    let count = agents.count;
+    if count == 0 {
+        return none();
+    }
+    let numbers = agents.numbers;
+    largest(suits, &numbers[1..count], count, none(), none())
+}
