@@ -9,20 +9,24 @@ use lib.Dec.{eqb, leb}
 use lib.ListN.{length, length-map}
 use Rattle.lists.specs.Lists.{range, bit, nth, count, elem}
 use Rattle.lists.specs.Sums.{total, sumOver}
-use Rattle.lists.proofs.Ranges.{length-range}
-use Rattle.lists.proofs.Counting.{bit-any}
-use Rattle.lists.proofs.Distinct.{mem-elem, distinct-count, range-distinct}
-use Rattle.lists.proofs.Totals.{sumOver-cong, sumOver-bit}
-use Rattle.rounds.specs.Ratio.{Terms}
-use Rattle.rounds.specs.Valuations.{valuation, value, profile, shareOf}
-use Rattle.rounds.specs.Round.{Instance, suits, Round, held}
+use Rattle.lists.proofs.ranges.Ranges.{length-range}
+use Rattle.lists.proofs.members.Counting.{bit-any}
+use Rattle.lists.proofs.members.Distinct.{mem-elem, distinct-count, range-distinct}
+use Rattle.lists.proofs.sums.Totals.{sumOver-cong, sumOver-bit}
+use Rattle.rounds.specs.declared.Terms.{Terms}
+use Rattle.sheet.specs.Valuations.{value}
+use Rattle.sheet.specs.Tables.{valuation, profile}
+use Rattle.shares.specs.Shares.{shareOf}
+use Rattle.rounds.specs.Round.{Instance, suits, Round, round, held}
 use Rattle.rounds.specs.Division.{instanceOf, allRounds, allocation}
 use mathlib.Core.List.{map-map}
-use Rattle.rounds.proofs.Ratio.{Allowed}
-use Rattle.rounds.proofs.Profile.{nth-map-range, value-profile, nth-shares, shareOf-profile}
-use Rattle.rounds.proofs.Held.{allSuit-length}
-use Rattle.rounds.proofs.Invariant.{Sound, left-all}
-use Rattle.rounds.proofs.Rounds.{held-sublist, rounds-suit, held-suits, held-all}
+use Rattle.rounds.proofs.density.Terms.{Allowed}
+use Rattle.lists.proofs.ranges.Ranges.{nth-map-range}
+use Rattle.sheet.proofs.valuing.Tables.{value-profile}
+use Rattle.shares.proofs.Profile.{nth-shares, shareOf-profile}
+use Rattle.rounds.proofs.round.Held.{allSuit-length}
+use Rattle.rounds.proofs.round.Invariant.{Sound, left-all, round-suits}
+use Rattle.rounds.proofs.round.Rounds.{held-sublist, rounds-each, held-suits, held-all}
 
 -- what stands at most once in all bundles together stands in as many bundles
 count-bundles : (k : ℕ) (bundles : List (List ℕ)) → total (map (count (eqb k)) bundles) ≤ 1 → count (elem k) bundles ≡ total (map (count (eqb k)) bundles)
@@ -55,7 +59,10 @@ module _ (n m : ℕ) (terms : Terms) (table : List (List ℕ)) where
 
     -- in every round there is a bundle for each agent served
     pub served-each : (r : Round) → Mem r (allRounds n m G) → length (r .bundles) ≡ length (r .served)
-    served-each r mem = allSuit-length (suits G) (r .served) (r .bundles) (rounds-suit sound n (range 1 n) (range 1 m) agents-enough (left-all n m G) r mem)
+    served-each =
+        rounds-each sound (λ r. length (r .bundles) ≡ length (r .served))
+        (λ agents items some state. allSuit-length (suits G) (round G agents items .served) (round G agents items .bundles) (round-suits sound some state))
+        n (range 1 n) (range 1 m) (left-all n m G)
 
     -- by the marks of the table each agent holds what it is promised
     pub holds-promised : (agent : ℕ) → Mem agent (range 1 n)

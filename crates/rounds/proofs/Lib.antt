@@ -1,21 +1,9 @@
--- Why each agent gets its fraction of its maximin share: a grouping of numbers and the balance of densities, then round after round.
-pub mod Ratio
-pub mod Deficit
-pub mod Partition
-pub mod Sort
-pub mod Refine
-pub mod Splitting
-pub mod Core
-pub mod Regroup
-pub mod Density
-pub mod Bundles
-pub mod Held
-pub mod Round
-pub mod Invariant
-pub mod Rounds
--- the division of a table, and the starred sheets
-pub mod Profile
+-- Why each agent gets its fraction of its maximin share, and each round is as document 01 says: `density` and `round` have the reasons,
+-- the other files what holds of the division of every table, and the starred sheets.
+pub mod density
+pub mod round
 pub mod Allocation
 pub mod Answers
+pub mod EveryRound
 pub mod Theorems
 pub mod Samples

@@ -1,16 +1,24 @@
--- The table of fractions, refusals 4 and 5, and the starred sheets a to f and i of document 01, by computation. Assumes nothing.
-use mathlib.Core.Path.{_≡_, refl}
+-- The table of terms, refusals 4 and 5, and the starred sheets a to i of document 01 in one table, by computation. Assumes nothing.
+use mathlib.Core.Path.{_≡_, refl, ap}
+use mathlib.Core.Logic.{_⊎_, inl, inr}
 use mathlib.Core.List.{List, [], _∷_, map}
 use Prim.Native.Nat.{ℕ}
+use Rattle.sheet.specs.Sets.{itemsOf}
+use Rattle.sheet.specs.Valuations.{valuesOf}
 use Rattle.cut.specs.Share.{maximinShare, maximinPartition}
-use Rattle.rounds.specs.Ratio.{Terms, largestOdd, termsFor}
-use Rattle.rounds.specs.Valuations.{profile}
+use Rattle.cut.specs.Outcome.{Cutting, cutting}
+use Rattle.cut.proofs.Samples.{Sample as CutSample}
+use Rattle.rounds.specs.declared.Terms.{Terms}
+use Rattle.rounds.specs.Terms.{largestOdd, termsFor}
+use Rattle.sheet.specs.Tables.{profile}
 use Rattle.matching.specs.Matching.{waitingSet, matching}
 use Rattle.rounds.specs.Round.{round, rounds, held}
-use Rattle.rounds.specs.Grade.{envyFree, proportional, maximinFair, grade}
-use Rattle.rounds.specs.Division.{Division, refused, divided, divisionOf, shareExceeds, answer}
+use Rattle.grading.specs.Grade.{envyFree, proportional, maximinFair, grade}
+use Rattle.rounds.specs.Division.{Division, divisionOf, answer}
+use Rattle.sheet.specs.Answers.{Answer, refused, accepted}
+use Rattle.shares.specs.Shares.{sharesCovered, sharing}
 
--- a fraction of the table in "Rounds"
+-- top and bottom in the table of "Rounds"
 abbrev over : ℕ → ℕ → Terms
 over top bottom = record { top = top; bottom = bottom }
 
@@ -21,7 +29,7 @@ terms-table = refl
 -- 0 and 7 yards give 4, 0 and 13 pieces give 5, and 4 is tried first
 pub refusals-hold : answer 0 3 [] ∷ answer 7 3 [] ∷ answer 2 0 [] ∷ answer 2 13 [] ∷ answer 7 13 [] ∷ []
     ≡ map refused (4 ∷ 4 ∷ 5 ∷ 5 ∷ 4 ∷ [])
-unfolding answer
+unfolding answer sharing
 refusals-hold = refl
 
 -- a sheet, with its division
@@ -31,10 +39,25 @@ pub record Sample : Type 0 where
   pub rows : List (List ℕ)
   pub division : Division
 
-unfoldable pub samples : List Sample
-samples =
+-- a row of the table: a sheet with its division, or a valuation to be cut with its share and partition
+pub data Starred : Type 0 where
+  sheet : (sample : Sample) → Starred
+  cut : (sample : CutSample) → Starred
+
+-- what the definitions answer for a row
+abbrev pub worked : Starred → Answer Division ⊎ Answer Cutting
+worked (sheet s) = inl (answer (s .agents) (s .items) (s .rows))
+worked (cut s) = inr (cutting (s .valuation) (s .set) (s .bundles))
+
+-- what the row says
+abbrev pub stated : Starred → Answer Division ⊎ Answer Cutting
+stated (sheet s) = inl (accepted (s .division))
+stated (cut s) = inr (s .answered)
+
+unfoldable pub starred : List Starred
+starred =
     -- a
-    record {
+    sheet (record {
       agents = 2;
       items = 3;
       rows = (5 ∷ 3 ∷ 4 ∷ []) ∷ (6 ∷ 2 ∷ 2 ∷ []) ∷ [];
@@ -45,9 +68,9 @@ samples =
         cutters = 1 ∷ [];
         grade = 3;
       };
-    }
+    })
     -- b
-    ∷ record {
+    ∷ sheet (record {
       agents = 3;
       items = 4;
       rows = (1 ∷ 1 ∷ 1 ∷ 1 ∷ []) ∷ (6 ∷ 6 ∷ 3 ∷ 3 ∷ []) ∷ (2 ∷ 2 ∷ 2 ∷ 2 ∷ []) ∷ [];
@@ -58,9 +81,9 @@ samples =
         cutters = 1 ∷ 2 ∷ [];
         grade = 2;
       };
-    }
+    })
     -- c
-    ∷ record {
+    ∷ sheet (record {
       agents = 3;
       items = 4;
       rows = (1 ∷ 1 ∷ 1 ∷ 1 ∷ []) ∷ (4 ∷ 4 ∷ 3 ∷ 1 ∷ []) ∷ (1 ∷ 1 ∷ 1 ∷ 1 ∷ []) ∷ [];
@@ -71,9 +94,9 @@ samples =
         cutters = 1 ∷ [];
         grade = 4;
       };
-    }
+    })
     -- d
-    ∷ record {
+    ∷ sheet (record {
       agents = 3;
       items = 4;
       rows = (1 ∷ 1 ∷ 1 ∷ 1 ∷ []) ∷ (8 ∷ 8 ∷ 5 ∷ 3 ∷ []) ∷ (1 ∷ 1 ∷ 1 ∷ 1 ∷ []) ∷ [];
@@ -84,9 +107,9 @@ samples =
         cutters = 1 ∷ 2 ∷ [];
         grade = 2;
       };
-    }
+    })
     -- e
-    ∷ record {
+    ∷ sheet (record {
       agents = 2;
       items = 1;
       rows = (7 ∷ []) ∷ (9 ∷ []) ∷ [];
@@ -97,9 +120,9 @@ samples =
         cutters = 1 ∷ [];
         grade = 3;
       };
-    }
+    })
     -- f
-    ∷ record {
+    ∷ sheet (record {
       agents = 2;
       items = 2;
       rows = (0 ∷ 0 ∷ []) ∷ (0 ∷ 0 ∷ []) ∷ [];
@@ -110,9 +133,13 @@ samples =
         cutters = 1 ∷ [];
         grade = 1;
       };
-    }
+    })
+    -- g
+    ∷ cut (record { valuation = 1 ∷ 2 ∷ 3 ∷ 4 ∷ 5 ∷ 6 ∷ 7 ∷ []; set = 0b1111111; bundles = 3; answered = accepted (record { share = 9; partition = (1 ∷ 1 ∷ 2 ∷ 3 ∷ 3 ∷ 1 ∷ 2 ∷ []) }) })
+    -- h
+    ∷ cut (record { valuation = 2 ∷ 2 ∷ 2 ∷ 2 ∷ []; set = 0b1111; bundles = 2; answered = accepted (record { share = 4; partition = (1 ∷ 1 ∷ 2 ∷ 2 ∷ []) }) })
     -- i
-    ∷ record {
+    ∷ sheet (record {
       agents = 1;
       items = 3;
       rows = (3 ∷ 0 ∷ 9 ∷ []) ∷ [];
@@ -123,9 +150,29 @@ samples =
         cutters = 1 ∷ [];
         grade = 1;
       };
-    }
+    })
     ∷ []
 
-pub samples-hold : map (λ s. answer (s .agents) (s .items) (s .rows)) samples ≡ map (λ s. divided (s .division)) samples
-unfolding samples answer divisionOf shareExceeds profile termsFor largestOdd round rounds held waitingSet matching maximinShare maximinPartition grade envyFree proportional maximinFair
-samples-hold = refl
+-- "The starred sheets are proved as a table, by one theorem covering its rows"
+pub starred-hold : map worked starred ≡ map stated starred
+unfolding starred answer divisionOf sharing sharesCovered profile termsFor largestOdd round rounds held waitingSet matching maximinShare maximinPartition grade envyFree proportional maximinFair cutting valuesOf itemsOf
+starred-hold = refl
+
+-- the sheets of the table
+abbrev pub sheetsOf : List Starred → List Sample
+sheetsOf [] = []
+sheetsOf (sheet s ∷ rows) = s ∷ sheetsOf rows
+sheetsOf (cut s ∷ rows) = sheetsOf rows
+
+abbrev pub samples : List Sample
+samples = sheetsOf starred
+
+-- the divisions among several answers
+abbrev divisionsOf : List (Answer Division ⊎ Answer Cutting) → List (Answer Division)
+divisionsOf [] = []
+divisionsOf (inl d ∷ rows) = d ∷ divisionsOf rows
+divisionsOf (inr c ∷ rows) = divisionsOf rows
+
+pub samples-hold : map (λ s. answer (s .agents) (s .items) (s .rows)) samples ≡ map (λ s. accepted (s .division)) samples
+unfolding starred
+samples-hold = ap divisionsOf starred-hold

@@ -3,12 +3,13 @@ use mathlib.Core.Path.{_≡_}
 use mathlib.Core.List.{List, List·Memᴰ as Mem}
 use Prim.Native.Nat.{ℕ}
 use lib.ListN.{length}
-use Rattle.rounds.specs.Ratio.{termsFor}
-use Rattle.rounds.specs.Valuations.{AgreeInUse}
+use Rattle.shares.specs.Shares.{sharing}
+use Rattle.rounds.specs.Terms.{termsFor}
+use Rattle.sheet.specs.Tables.{AgreeInUse}
 use Rattle.rounds.specs.Round.{Round}
 use Rattle.rounds.specs.Division.{standardInstance, allRounds, answer}
-use Rattle.rounds.proofs.Ratio.{termsFor-allowed}
-use Rattle.rounds.proofs.Profile.{profile-agree}
+use Rattle.rounds.proofs.density.Terms.{termsFor-allowed}
+use Rattle.sheet.proofs.valuing.Tables.{profile-agree}
 use Rattle.rounds.proofs.Allocation.{served-each}
 
 -- serving never fails: in every round there is a bundle for each agent served
@@ -17,5 +18,5 @@ every-round-serves n m table = served-each n m (termsFor n) table (termsFor-allo
 
 -- "places beyond the yards and pieces in use count for nothing"
 pub agreeing-tables-same-answer : (n m : ℕ) (table table′ : List (List ℕ)) → AgreeInUse n m table table′ → answer n m table ≡ answer n m table′
-unfolding answer
+unfolding answer sharing
 agreeing-tables-same-answer n m table table′ same = rw (profile-agree n m table table′ same)

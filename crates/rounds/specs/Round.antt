@@ -5,30 +5,18 @@ use mathlib.Core.List.{List, [], _∷_, map}
 use Prim.Native.Nat.{ℕ, zero, suc, _*_}
 use lib.Dec.{eqb, leb}
 use lib.ListN.{length}
-use Rattle.lists.specs.Lists.{range, consIf, nth, elem}
-use Rattle.sheet.specs.Valuations.{valueOf}
+use Rattle.lists.specs.Lists.{nth, elem}
+use Rattle.sheet.specs.Valuations.{itemValue, value}
+use Rattle.bundling.specs.Bundles.{itemsIn, bundle}
 use Rattle.cut.specs.Share.{maximinPartition}
-use Rattle.rounds.specs.Ratio.{Terms}
-use Rattle.rounds.specs.Valuations.{valuation, value}
-use Rattle.matching.specs.Matching.{without, servedAgents, waitingSet, freeBundles, matching}
+use Rattle.rounds.specs.declared.Terms.{Terms}
+use Rattle.sheet.specs.Tables.{valuation}
+use Rattle.matching.specs.Matching.{cutterOf, waitingOf, servedOf, chosenOf}
 
--- the items, of those left, that a partition puts into the bundles whose number passes the test
-abbrev pub itemsIn : (ℕ → Bool) → List ℕ → List ℕ → List ℕ
-itemsIn t [] l = []
-itemsIn t (k ∷ ks) [] = []
-itemsIn t (k ∷ ks) (c ∷ l) = consIf (t c) k (itemsIn t ks l)
-
--- bundle c of a partition of the items
-abbrev pub bundle : List ℕ → List ℕ → ℕ → List ℕ
-bundle items l c = itemsIn (eqb c) items l
-
--- "The cutter is the lowest-numbered yard left": the first, as the agents left stand in rising order
-abbrev pub cutterOf : List ℕ → ℕ
-cutterOf [] = 0
-cutterOf (agent ∷ agents) = agent
-
--- what one round settles: the agents served have the bundles at the same places
+-- one round: the agents and items left when it begins, and what it settles; the agents served have the bundles at the same places
 pub record Round : Type 0 where
+  pub agents : List ℕ
+  pub items : List ℕ
   pub cutter : ℕ
   pub served : List ℕ
   pub bundles : List (List ℕ)
@@ -46,26 +34,31 @@ module _ (G : Instance) where
   abbrev pub suits : ℕ → List ℕ → Bool
   suits agent items = leb (G .terms .top * nth 0 (G .shares) agent) (G .terms .bottom * value (valuation (G .valuations) agent) items)
 
+  -- whether bundle c of a partition of the items suits the agent
+  abbrev pub suitsIn : List ℕ → List ℕ → ℕ → ℕ → Bool
+  suitsIn items l agent c = suits agent (bundle items l c)
+
   -- "It cuts the pieces left into n piles"
   abbrev pub cutBy : ℕ → ℕ → List ℕ → List ℕ
-  cutBy agent n items = maximinPartition n (map (valueOf (valuation (G .valuations) agent)) items)
+  cutBy agent n items = maximinPartition n (map (itemValue (valuation (G .valuations) agent)) items)
+
+  -- the cutter's cut of the items left into as many bundles as there are agents left
+  abbrev pub cutOf : List ℕ → List ℕ → List ℕ
+  cutOf agents items = cutBy (cutterOf agents) (length agents) items
 
   -- "One round has n yards left and a set of pieces left"
   unfoldable pub round : List ℕ → List ℕ → Round
   round agents items =
-      let n = length agents in
-      let cutter = cutterOf agents in
-      let l = cutBy cutter n items in
-      let fits : ℕ → ℕ → Bool = λ agent c. suits agent (bundle items l c) in
-      let waiting = waitingSet fits (without cutter agents) (range 1 n) in
-      let served = servedAgents waiting agents in
-      let chosen = matching fits served (freeBundles fits waiting (range 1 n)) in
+      let l = cutOf agents items in
+      let suited : ℕ → ℕ → Bool = suitsIn items l in
       record {
-        cutter = cutter;
-        served = served;
-        bundles = map (bundle items l) chosen;
-        waiting = waiting;
-        left = itemsIn (λ c. not (elem c chosen)) items l;
+        agents = agents;
+        items = items;
+        cutter = cutterOf agents;
+        served = servedOf suited agents;
+        bundles = map (bundle items l) (chosenOf suited agents);
+        waiting = waitingOf suited agents;
+        left = itemsIn (λ c. not (elem c (chosenOf suited agents))) items l;
       }
 
   -- "If yards wait, the pieces of every pile not handed out are put together, and the waiting yards divide them by the same steps":

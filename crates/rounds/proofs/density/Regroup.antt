@@ -9,10 +9,10 @@ use native.Mathlib.Omega.{arith}
 use lib.ListN.{length, length-map}
 use Rattle.lists.specs.Lists.{range}
 use Rattle.lists.specs.Sums.{total}
-use Rattle.lists.proofs.Ranges.{range-bounds, length-range}
+use Rattle.lists.proofs.ranges.Ranges.{range-bounds, length-range}
 use Rattle.cut.specs.Share.{bundleValue}
-use Rattle.rounds.proofs.Partition.{IsPartition, empty, place, partition-length, valueIf, valueIf-same, valueIf-other, valueIf-le, valueIf-add, bundleValue-le-total, oneBundle, oneBundle-partition, bundleValue-oneBundle}
-use Rattle.rounds.proofs.Refine.{Refines}
+use Rattle.rounds.proofs.density.Partition.{IsPartition, empty, place, isPartition-length, valueIf, valueIf-same, valueIf-other, valueIf-le, valueIf-add, bundleValue-le-total, oneBundle, oneBundle-partition, bundleValue-oneBundle}
+use Rattle.rounds.proofs.density.Refine.{Refines}
 
 -- the values of the bundles 1 .. n of a partition
 abbrev pub bundleValues : ℕ → List ℕ → List ℕ → List ℕ
@@ -80,7 +80,7 @@ refines-bundleValues {N} {l} {values} r n G g =
     record {
       partition = map (groupOf 1 G) l;
       is-partition = regroup-partition r g (length-bundleValues N values l);
-      same-value = λ c. bundleValue-regroup G c (partition-length g ∙ length-bundleValues N values l) r;
+      same-value = λ c. bundleValue-regroup G c (isPartition-length g ∙ length-bundleValues N values l) r;
     }
 
 -- by regrouping the bundles into one

@@ -10,25 +10,28 @@ use lib.ListN.{length, length-map}
 use borrow.Author.Tests.{le-leb, leb-false}
 use Rattle.lists.specs.Lists.{range, Within, nth, elem, distinct}
 use Rattle.lists.specs.Sums.{total, sumOver}
-use Rattle.lists.proofs.Ranges.{range-bounds, length-range, within-mem}
-use Rattle.lists.proofs.LeastOf.{leastOf-le}
-use Rattle.lists.proofs.Counting.{reject-sublist, sublist-mem, length-sublist, count-sublist}
-use Rattle.lists.proofs.Distinct.{range-distinct, submultiset-distinct, mem-elem}
-use Rattle.lists.proofs.Totals.{sumOver-le, map-sublist}
-use Rattle.sheet.specs.Valuations.{valueOf}
+use Rattle.lists.proofs.ranges.Ranges.{range-bounds, length-range, within-mem}
+use Rattle.lists.proofs.sums.LeastOf.{leastOf-le}
+use Rattle.lists.proofs.members.Counting.{reject-sublist, sublist-mem, length-sublist, count-sublist}
+use Rattle.lists.proofs.members.Distinct.{range-distinct, submultiset-distinct, mem-elem}
+use Rattle.lists.proofs.sums.Totals.{sumOver-le, map-sublist}
+use Rattle.sheet.specs.Valuations.{itemValue, value}
 use Rattle.cut.specs.Share.{bundleValue, maximinShare}
 use Rattle.cut.proofs.Laws.{maximinPartition-within, leastBundle-maximinPartition}
-use Rattle.rounds.specs.Valuations.{valuation, value, shareOf}
-use Rattle.matching.specs.Matching.{servedAgents}
-use Rattle.rounds.specs.Round.{bundle, cutterOf, Instance, suits, Round, round}
-use Rattle.matching.proofs.Matching.{Matched, suited-length}
+use Rattle.sheet.specs.Tables.{valuation}
+use Rattle.shares.specs.Shares.{shareOf}
+use Rattle.matching.specs.Matching.{Matched, cutterOf, bundleNumbers, waitingOf, servedOf, freeOf, chosenOf}
+use Rattle.bundling.specs.Bundles.{bundle}
+use Rattle.rounds.specs.Round.{Instance, suits, cutOf, Round, round}
+use Rattle.matching.proofs.Matching.{suited-length}
 use mathlib.Core.List.{map-map}
-use Rattle.rounds.proofs.Bundles.{itemsIn-none, bundleValue-items, sumOver-handed}
-use Rattle.rounds.proofs.Held.{AllSuit, suited-allSuit}
+use Rattle.rounds.proofs.round.Bundles.{itemsIn-none, bundleValue-items, sumOver-handed}
+use Rattle.rounds.proofs.round.Held.{AllSuit, suited-allSuit}
+use Rattle.matching.proofs.Cutter.{cutterOf-mem}
 use Rattle.matching.proofs.Serving.{served-or-waiting, free-unsuited, served-matched, none-waiting-all-handed}
-use Rattle.rounds.proofs.Ratio.{Allowed}
-use Rattle.rounds.proofs.Density.{density-balance}
-use Rattle.rounds.proofs.Round.{cutterOf-mem, cut, fits, waits, free, chosen, waiting-sub, left-sub}
+use Rattle.rounds.proofs.density.Terms.{Allowed}
+use Rattle.rounds.proofs.density.Balance.{density-balance}
+use Rattle.rounds.proofs.round.Parts.{cutSuits, waiting-sub, left-sub}
 
 -- an instance of N agents and M items: terms that promise no more than document 01, and shares by the valuations
 pub record Sound (N M : ℕ) (G : Instance) : Type 0 where
@@ -62,25 +65,16 @@ module _ {N M : ℕ} {G : Instance} {agents items : List ℕ} (sound : Sound N M
   cutter = cutterOf agents
 
   abbrev l : List ℕ
-  l = cut G agents items
+  l = cutOf G agents items
 
   abbrev suiting : ℕ → ℕ → Bool
-  suiting = fits G agents items
-
-  abbrev waiting : List ℕ
-  waiting = waits G agents items
-
-  abbrev served : List ℕ
-  served = servedAgents waiting agents
-
-  abbrev hands : List ℕ
-  hands = chosen G agents items
+  suiting = cutSuits G agents items
 
   abbrev r : Round
   r = round G agents items
 
   abbrev cutter-value : ℕ → ℕ
-  cutter-value = valueOf (valuation (G .valuations) cutter)
+  cutter-value = itemValue (valuation (G .valuations) cutter)
 
   cutter-left : Mem cutter agents
   cutter-left = cutterOf-mem agents some
@@ -91,12 +85,13 @@ module _ {N M : ℕ} {G : Instance} {agents items : List ℕ} (sound : Sound N M
   pub served-distinct : distinct (r .served) ≡ true
   unfolding round
   served-distinct =
-      submultiset-distinct served agents (count-sublist (reject-sublist (λ a. elem a waiting) agents)) agents-distinct
+      submultiset-distinct (servedOf suiting agents) agents (count-sublist (reject-sublist (λ a. elem a (waitingOf suiting agents)) agents)) agents-distinct
 
   agents-few : n ≤ N
   agents-few = omega (arith, length-sublist (state .of-agents), length-range 1 N)
 
-  cut-within : Within n l × (length l ≡ length items)
+  -- the cut gives each item left one of as many bundles as there are agents left
+  pub cut-within : Within n l × (length l ≡ length items)
   cut-within =
       let (within, same) = maximinPartition-within n (map cutter-value items) some in
       (within, same ∙ length-map items cutter-value)
@@ -110,59 +105,57 @@ module _ {N M : ℕ} {G : Instance} {agents items : List ℕ} (sound : Sound N M
       (rw mine at (state .enough cutter cutter-left)))
 
   -- every bundle of its cut suits the cutter
-  cutter-suited : (c : ℕ) → Mem c (range 1 n) → suiting cutter c ≡ true
+  cutter-suited : (c : ℕ) → Mem c (bundleNumbers agents) → suiting cutter c ≡ true
   cutter-suited c m =
       let (lo, hi) = range-bounds 1 n m in
       let least = leastOf-le (λ d. bundleValue d (map cutter-value items) l) n c lo (omega arith) in
       le-leb _ _ (le-trans share-left (mul-le-mul-left (G .terms .bottom)
       (omega (arith, least, leastBundle-maximinPartition n (map cutter-value items) some, bundleValue-items cutter-value c items l))))
 
-  matched : Matched suiting served (free G agents items) hands
-  matched =
-      served-matched suiting cutter agents (range 1 n) cutter-suited (length-range 1 n) (range-distinct 1 n)
+  -- the agents served are matched with free bundles
+  pub matched : Matched suiting (servedOf suiting agents) (freeOf suiting agents) (chosenOf suiting agents)
+  matched = served-matched suiting agents cutter-suited
 
   -- every agent that does not wait is served with a bundle that suits it
   pub round-suits : AllSuit (suits G) (r .served) (r .bundles)
   unfolding round
-  round-suits = suited-allSuit (suits G) (bundle items l) served hands (matched .suits-each)
+  round-suits = suited-allSuit (suits G) (bundle items l) (servedOf suiting agents) (chosenOf suiting agents) (matched .suits-each)
 
-  handed-and-left : (w : ℕ → ℕ) → sumOver (λ c. sumOver w (bundle items l c)) hands + sumOver w (r .left) ≡ sumOver w items
+  handed-and-left : (w : ℕ → ℕ) → sumOver (λ c. sumOver w (bundle items l c)) (chosenOf suiting agents) + sumOver w (r .left) ≡ sumOver w items
   unfolding round
-  handed-and-left w = sumOver-handed w hands items l (matched .injective) (cut-within .1)
+  handed-and-left w = sumOver-handed w (chosenOf suiting agents) items l (matched .injective) (cut-within .1)
 
   -- the bundles handed out and what is left are all items
   pub round-items : (w : ℕ → ℕ) → total (map (sumOver w) (r .bundles)) + sumOver w (r .left) ≡ sumOver w items
   unfolding round
   round-items w =
-      ap (λ v. total v + sumOver w (r .left)) (map-map (sumOver w) (bundle items l) hands)
+      ap (λ v. total v + sumOver w (r .left)) (map-map (sumOver w) (bundle items l) (chosenOf suiting agents))
       ∙ handed-and-left w
 
   -- where no agent waits, nothing is left
   pub none-waiting-none-left : length (r .waiting) ≡ 0 → r .left ≡ []
   unfolding round
   none-waiting-none-left none =
-      itemsIn-none (λ c. not (elem c hands)) items l
+      itemsIn-none (λ c. not (elem c (chosenOf suiting agents))) items l
       (λ c m. ap not (mem-elem (handed c (within-mem n l (cut-within .0) c m))))
     where
-      handed : (c : ℕ) → Mem c (range 1 n) → Mem c hands
-      handed =
-          none-waiting-all-handed suiting cutter agents (range 1 n) cutter-suited
-          (length-range 1 n) (range-distinct 1 n) agents-distinct none
+      handed : (c : ℕ) → Mem c (bundleNumbers agents) → Mem c (chosenOf suiting agents)
+      handed = none-waiting-all-handed suiting agents cutter-suited agents-distinct none
 
   -- to an agent that waits, what is handed out is worth at most the part top / bottom of its share for each agent served
-  handed-short : (agent : ℕ) → Mem agent waiting
-      → G .terms .bottom * sumOver (λ c. valueTo G agent (bundle items l c)) hands ≤ length hands * promised G agent
+  handed-short : (agent : ℕ) → Mem agent (waitingOf suiting agents)
+      → G .terms .bottom * sumOver (λ c. valueTo G agent (bundle items l c)) (chosenOf suiting agents) ≤ length (chosenOf suiting agents) * promised G agent
   handed-short agent m =
-      sumOver-le (λ c. valueTo G agent (bundle items l c)) (G .terms .bottom) (promised G agent) hands
+      sumOver-le (λ c. valueTo G agent (bundle items l c)) (G .terms .bottom) (promised G agent) (chosenOf suiting agents)
       (λ c mc. le-of-lt (leb-false (promised G agent) (G .terms .bottom * valueTo G agent (bundle items l c))
-      (free-unsuited suiting cutter agents (range 1 n) agent c m (matched .from-bundles c mc))))
+      (free-unsuited suiting agents agent c m (matched .from-bundles c mc))))
 
-  agents-gone : N - length waiting ≡ (N - n) + length hands
+  agents-gone : N - length (waitingOf suiting agents) ≡ (N - n) + length (chosenOf suiting agents)
   agents-gone = omega (
     arith,
     agents-few,
-    served-or-waiting suiting cutter agents (range 1 n) agents-distinct,
-    suited-length suiting served hands (matched .suits-each),
+    served-or-waiting suiting agents agents-distinct,
+    suited-length suiting (servedOf suiting agents) (chosenOf suiting agents) (matched .suits-each),
   )
 
   -- the invariant is kept
@@ -172,16 +165,16 @@ module _ {N M : ℕ} {G : Instance} {agents items : List ℕ} (sound : Sound N M
       record {
         of-agents = sublist-trans (waiting-sub G agents items) (state .of-agents);
         of-items = sublist-trans (left-sub G agents items) (state .of-items);
-        enough = λ agent m. rw (agents-gone, add-mul (N - n) (length hands) (promised G agent)) (kept agent m);
+        enough = λ agent m. rw (agents-gone, add-mul (N - n) (length (chosenOf suiting agents)) (promised G agent)) (kept agent m);
       }
     where
-      kept : (agent : ℕ) → Mem agent waiting
+      kept : (agent : ℕ) → Mem agent (waitingOf suiting agents)
           → G .terms .bottom * valueTo G agent (range 1 M)
-          ≤ G .terms .bottom * valueTo G agent (r .left) + ((N - n) * promised G agent + length hands * promised G agent)
+          ≤ G .terms .bottom * valueTo G agent (r .left) + ((N - n) * promised G agent + length (chosenOf suiting agents) * promised G agent)
       kept agent m = omega (
         arith,
         state .enough agent (sublist-mem (waiting-sub G agents items) m),
         handed-short agent m,
-        mul-add (G .terms .bottom) (sumOver (λ c. valueTo G agent (bundle items l c)) hands) (valueTo G agent (r .left)),
-        ap (λ v. G .terms .bottom * v) (handed-and-left (valueOf (valuation (G .valuations) agent))),
+        mul-add (G .terms .bottom) (sumOver (λ c. valueTo G agent (bundle items l c)) (chosenOf suiting agents)) (valueTo G agent (r .left)),
+        ap (λ v. G .terms .bottom * v) (handed-and-left (itemValue (valuation (G .valuations) agent))),
       )

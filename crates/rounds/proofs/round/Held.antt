@@ -11,8 +11,8 @@ use lib.ListN.{length}
 use borrow.Author.Tests.{eq-eqb, ne-eqb, eqb-true, not-true}
 use Rattle.lists.specs.Sums.{total, sumOver}
 use Rattle.lists.specs.Lists.{elem, distinct}
-use Rattle.lists.proofs.Distinct.{mem-elem}
-use Rattle.lists.proofs.Totals.{sumOver-cong}
+use Rattle.lists.proofs.members.Distinct.{mem-elem}
+use Rattle.lists.proofs.sums.Totals.{sumOver-cong}
 use Rattle.matching.specs.Matching.{suited}
 use Rattle.rounds.specs.Round.{given}
 
@@ -44,29 +44,29 @@ AllSuit suits (a ∷ served) (b ∷ bundles) = (suits a b ≡ true) × AllSuit s
 
 pub suited-allSuit : (suits : ℕ → List ℕ → Bool) (bundle : ℕ → List ℕ) (served chosen : List ℕ)
     → suited (λ a c. suits a (bundle c)) served chosen ≡ true → AllSuit suits served (map bundle chosen)
-suited-allSuit suits bundle [] [] fit = tt
-suited-allSuit suits bundle [] (c ∷ chosen) fit = absurd (false≢true fit)
-suited-allSuit suits bundle (a ∷ served) [] fit = absurd (false≢true fit)
-suited-allSuit suits bundle (a ∷ served) (c ∷ chosen) fit =
-    let (first, rest) = and-eq-true-iff (suits a (bundle c)) (suited (λ a c. suits a (bundle c)) served chosen) .0 fit in
+suited-allSuit suits bundle [] [] each = tt
+suited-allSuit suits bundle [] (c ∷ chosen) each = absurd (false≢true each)
+suited-allSuit suits bundle (a ∷ served) [] each = absurd (false≢true each)
+suited-allSuit suits bundle (a ∷ served) (c ∷ chosen) each =
+    let (first, rest) = and-eq-true-iff (suits a (bundle c)) (suited (λ a c. suits a (bundle c)) served chosen) .0 each in
     (first, suited-allSuit suits bundle served chosen rest)
 
 pub allSuit-length : (suits : ℕ → List ℕ → Bool) (served : List ℕ) (bundles : List (List ℕ)) → AllSuit suits served bundles → length bundles ≡ length served
-allSuit-length suits [] [] fit = refl
-allSuit-length suits [] (b ∷ bundles) fit = absurd fit
-allSuit-length suits (a ∷ served) [] fit = absurd fit
-allSuit-length suits (a ∷ served) (b ∷ bundles) fit = ap suc (allSuit-length suits served bundles (fit .1))
+allSuit-length suits [] [] each = refl
+allSuit-length suits [] (b ∷ bundles) each = absurd each
+allSuit-length suits (a ∷ served) [] each = absurd each
+allSuit-length suits (a ∷ served) (b ∷ bundles) each = ap suc (allSuit-length suits served bundles (each .1))
 
 -- an agent that is served is given a bundle that suits it
 pub given-suits : (suits : ℕ → List ℕ → Bool) (agent : ℕ) (served : List ℕ) (bundles : List (List ℕ)) (later : List ℕ)
     → AllSuit suits served bundles → Mem agent served → suits agent (given agent served bundles later) ≡ true
-given-suits suits agent [] bundles later fit m = absurd (not-nil m)
-given-suits suits agent (a ∷ served) [] later fit m = absurd fit
-given-suits suits agent (a ∷ served) (b ∷ bundles) later fit m = step (eqb agent a) refl (given-suits suits agent served bundles later (fit .1))
+given-suits suits agent [] bundles later each m = absurd (not-nil m)
+given-suits suits agent (a ∷ served) [] later each m = absurd each
+given-suits suits agent (a ∷ served) (b ∷ bundles) later each m = step (eqb agent a) refl (given-suits suits agent served bundles later (each .1))
   where
     step : (t : Bool) → eqb agent a ≡ t → (Mem agent served → suits agent (given agent served bundles later) ≡ true)
         → suits agent (cond t b (given agent served bundles later)) ≡ true
-    step true e below = rw (eqb-true agent a e) (fit .0)
+    step true e below = rw (eqb-true agent a e) (each .0)
     step false e below = below (⊎-elim (λ d. absurd (true≢false (sym (eq-eqb agent a d) ∙ e))) (λ n. n) (cases-cons m))
 
 -- the agents that are served are given the bundles that are handed out

@@ -5,8 +5,8 @@ use Prim.Native.Nat.{ℕ, _+_}
 use native.Mathlib.Nat.{add-left-comm}
 use native.Mathlib.Omega.{arith}
 use Rattle.cut.specs.Share.{bundleValue}
-use Rattle.rounds.proofs.Partition.{IsPartition, place, valueIf, valueIf-add}
-use Rattle.rounds.proofs.Sort.{Perm, perm-refl, perm-cons, perm-swap, perm-trans}
+use Rattle.rounds.proofs.density.Partition.{IsPartition, place, valueIf, valueIf-add}
+use Rattle.rounds.proofs.density.Sort.{Perm, perm-refl, perm-cons, perm-swap, perm-trans}
 
 -- a partition of the fine list into n bundles that have the values of the partition l of the coarse list
 pub record Realised (n : ℕ) (l coarse fine : List ℕ) : Type 0 where

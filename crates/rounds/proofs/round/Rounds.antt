@@ -10,12 +10,12 @@ use native.Mathlib.Omega.{arith}
 use lib.ListN.{length}
 use Rattle.lists.specs.Sums.{total, sumOver}
 use Rattle.lists.specs.Lists.{elem}
-use Rattle.lists.proofs.Distinct.{mem-elem, elem-mem, filter-elem}
-use Rattle.lists.proofs.Totals.{sumOver-none, sumOver-filter, sumOver-cong}
+use Rattle.lists.proofs.members.Distinct.{mem-elem, elem-mem, filter-elem}
+use Rattle.lists.proofs.sums.Totals.{sumOver-none, sumOver-filter, sumOver-cong}
 use Rattle.rounds.specs.Round.{Instance, suits, Round, round, rounds, given, held}
-use Rattle.rounds.proofs.Held.{given-later, given-holds, AllSuit, allSuit-length, given-suits, sumOver-given}
-use Rattle.rounds.proofs.Round.{waiting-sub, waiting-falls, left-sub, bundles-sub, served-parts, waiting-not-served, not-waiting-served}
-use Rattle.rounds.proofs.Invariant.{Sound, Left, agents-distinct, served-distinct, round-suits, round-items, none-waiting-none-left, left-next}
+use Rattle.rounds.proofs.round.Held.{given-later, given-holds, allSuit-length, given-suits, sumOver-given}
+use Rattle.rounds.proofs.round.Parts.{waiting-sub, waiting-falls, left-sub, bundles-sub, served-parts, waiting-not-served, not-waiting-served}
+use Rattle.rounds.proofs.round.Invariant.{Sound, Left, agents-distinct, served-distinct, round-suits, round-items, none-waiting-none-left, left-next}
 
 module _ (G : Instance) where
   -- as many rounds as there are agents are enough
@@ -32,6 +32,13 @@ module _ (G : Instance) where
       let falls = waiting-falls G (a ∷ agents) items (omega arith) in
       ap (λ rs. r ∷ rs) (rounds-enough most most′ (r .waiting) (r .left) (omega arith) (omega arith))
 
+  -- no more are played than the bound
+  pub rounds-few : (most : ℕ) (agents items : List ℕ) → length (rounds G most agents items) ≤ most
+  unfolding rounds
+  rounds-few zero agents items = omega arith
+  rounds-few (suc most) [] items = omega arith
+  rounds-few (suc most) (a ∷ agents) items = let r = round G (a ∷ agents) items in omega (arith, rounds-few most (r .waiting) (r .left))
+
   -- what an agent holds is part of the items
   pub held-sublist : (most : ℕ) (agents items : List ℕ) (agent : ℕ) → Sublist (held (rounds G most agents items) agent) items
   unfolding rounds held
@@ -43,18 +50,17 @@ module _ (G : Instance) where
       (sublist-trans (held-sublist most (r .waiting) (r .left) agent) (left-sub G (a ∷ agents) items))
 
 module _ {N M : ℕ} {G : Instance} (sound : Sound N M G) where
-  -- in every round each agent served gets a bundle that suits it
-  pub rounds-suit : (most : ℕ) (agents items : List ℕ) → length agents ≤ most → Left N M G agents items
-      → (r : Round) → Mem r (rounds G most agents items) → AllSuit (suits G) (r .served) (r .bundles)
+  -- what holds of a round of any agents and items that keep the invariant holds of every round
+  pub rounds-each : (P : Round → Type 0) → ((agents items : List ℕ) → 1 ≤ length agents → Left N M G agents items → P (round G agents items))
+      → (most : ℕ) (agents items : List ℕ) → Left N M G agents items → (r : Round) → Mem r (rounds G most agents items) → P r
   unfolding rounds
-  rounds-suit zero agents items few state r m = absurd (not-nil m)
-  rounds-suit (suc most) [] items few state r m = absurd (not-nil m)
-  rounds-suit (suc most) (a ∷ agents) items few state r m =
+  rounds-each P each zero agents items state r m = absurd (not-nil m)
+  rounds-each P each (suc most) [] items state r m = absurd (not-nil m)
+  rounds-each P each (suc most) (a ∷ agents) items state r m =
       let now = round G (a ∷ agents) items in
-      let falls = waiting-falls G (a ∷ agents) items (omega arith) in
       ⊎-elim
-      (λ (e : r ≡ now). rw e (round-suits sound (omega arith) state))
-      (rounds-suit most (now .waiting) (now .left) (omega arith) (left-next sound (omega arith) state) r)
+      (λ (e : r ≡ now). rw e (each (a ∷ agents) items (omega arith) state))
+      (rounds-each P each most (now .waiting) (now .left) (left-next sound (omega arith) state) r)
       (cases-cons m)
 
   -- what an agent holds suits it

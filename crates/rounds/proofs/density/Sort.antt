@@ -7,7 +7,7 @@ use native.Mathlib.Nat.{add-left-comm, le-trans}
 use native.Mathlib.Decide.{decLe}
 use native.Mathlib.Omega.{arith}
 use lib.ListN.{length}
-use Rattle.rounds.proofs.Deficit.{deficit}
+use Rattle.rounds.proofs.density.Deficit.{deficit}
 
 -- the same members in another order
 pub data Perm : List ℕ → List ℕ → Type 0 where

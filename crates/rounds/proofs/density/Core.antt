@@ -7,12 +7,12 @@ use native.Mathlib.Nat.{le-refl, le-dest, suc-mul, eq-zero-or-pos}
 use native.Mathlib.Decide.{decLe}
 use native.Mathlib.Omega.{arith}
 use lib.ListN.{length}
-use Rattle.rounds.proofs.Deficit.{deficit}
-use Rattle.rounds.proofs.Partition.{oneBundle, oneBundle-partition}
-use Rattle.rounds.proofs.Sort.{Perm, perm-length, perm-deficit, Ascending, ascending-weaken, next, insert, perm-insert, insert-ascending, sort, perm-sort, sort-ascending}
-use Rattle.rounds.proofs.Refine.{refines-trans, refines-merge, perm-refines}
-use Rattle.rounds.proofs.Ratio.{top, bottom, reaches-of-le, not-lacks, not-absent}
-use Rattle.rounds.proofs.Splitting.{Splits, PairsReach, pairs-reach, splits-refine, splits-many, splits-pairs}
+use Rattle.rounds.proofs.density.Deficit.{deficit}
+use Rattle.rounds.proofs.density.Partition.{oneBundle, oneBundle-partition}
+use Rattle.rounds.proofs.density.Sort.{Perm, perm-length, perm-deficit, Ascending, ascending-weaken, next, insert, perm-insert, insert-ascending, sort, perm-sort, sort-ascending}
+use Rattle.rounds.proofs.density.Refine.{refines-trans, refines-merge, perm-refines}
+use Rattle.rounds.proofs.density.Terms.{top, bottom, reaches-of-le, not-lacks, not-absent}
+use Rattle.rounds.proofs.density.Splitting.{Splits, PairsReach, pairs-reach, splits-refine, splits-many, splits-pairs}
 
 -- hs, with e absent members that count as 0, lacks in all at most m times the part top / bottom of β
 pub record Supplied (N β n m e : ℕ) (hs : List ℕ) : Type 0 where

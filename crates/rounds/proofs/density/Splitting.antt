@@ -9,11 +9,11 @@ use native.Mathlib.Omega.{arith}
 use lib.ListN.{length}
 use Rattle.lists.specs.Sums.{total}
 use Rattle.cut.specs.Share.{bundleValue}
-use Rattle.rounds.proofs.Deficit.{deficit}
-use Rattle.rounds.proofs.Partition.{IsPartition, empty, place, partition-weaken, valueIf-same, oneBundle, oneBundle-partition, bundleValue-oneBundle}
-use Rattle.rounds.proofs.Sort.{Ascending, none, next}
-use Rattle.rounds.proofs.Refine.{Refines, refines-merge}
-use Rattle.rounds.proofs.Ratio.{top, bottom, Reaches, Short, reaches-mono, short-mono, reaches-of-le, Lacks, lacks-one, lacks-two}
+use Rattle.rounds.proofs.density.Deficit.{deficit}
+use Rattle.rounds.proofs.density.Partition.{IsPartition, empty, place, isPartition-weaken, valueIf-same, oneBundle, oneBundle-partition, bundleValue-oneBundle}
+use Rattle.rounds.proofs.density.Sort.{Ascending, none, next}
+use Rattle.rounds.proofs.density.Refine.{Refines, refines-merge}
+use Rattle.rounds.proofs.density.Terms.{top, bottom, Reaches, Short, reaches-mono, short-mono, reaches-of-le, Lacks, lacks-one, lacks-two}
 
 -- a partition of hs into n groups that all reach the part
 pub record Splits (N β n : ℕ) (hs : List ℕ) : Type 0 where
@@ -43,7 +43,7 @@ module _ {N β : ℕ} where
   splits-single {n} {hs} x h s =
       record {
         partition = suc n ∷ s .partition;
-        is-partition = place {c = suc n} (omega arith) (le-refl (suc n)) (partition-weaken (omega arith) (s .is-partition));
+        is-partition = place {c = suc n} (omega arith) (le-refl (suc n)) (isPartition-weaken (omega arith) (s .is-partition));
         reaches = λ g h₁ h₂.
             by-cases (ℕ-discrete g (suc n))
             (λ e. let all = valueIf-same x e in reaches-mono N β {s = x} (omega arith) h)

@@ -1,10 +1,11 @@
--- The ratio top / bottom of document 01 for N agents, and all arithmetic that is not linear. Assumes nothing.
+-- The terms of document 01 for N agents, top and bottom, and all arithmetic that is not linear. Assumes nothing.
 use mathlib.Core.Path.{_≡_}
 use Prim.Native.Nat.{ℕ, suc, _+_, _*_, _-_, _/_, _%_, _≤_, _<_}
 use native.Mathlib.Nat.{mul-add, add-mul, suc-mul, mul-assoc, mul-comm, mul-left-comm}
 use native.Mathlib.Nat.{mul-pos, mul-le-mul, mul-le-mul-left, mul-le-mul-right, le-trans, lt-of-le-of-lt, le-of-mul-le-mul-left}
 use native.Mathlib.Omega.{arith}
-use Rattle.rounds.specs.Ratio.{Terms, largestOdd, termsFor}
+use Rattle.rounds.specs.declared.Terms.{Terms}
+use Rattle.rounds.specs.Terms.{largestOdd, termsFor}
 
 -- products multiplied out and sorted: what is left is linear in them
 ruleset expand = (mul-add, add-mul, suc-mul, mul-assoc, mul-comm, mul-left-comm)
@@ -21,15 +22,15 @@ abbrev pub bottom : ℕ → ℕ
 bottom N = termsFor N .bottom
 
 -- K is 2 k + 1, and N is at most K + 1
-ratio-parts : (N : ℕ) → let k = (N - 1) / 2 in (N ≤ 2 * k + 2) × (top N ≡ 2 * (2 * k + 1)) × (bottom N ≡ 2 * (3 * k + 1))
+terms-parts : (N : ℕ) → let k = (N - 1) / 2 in (N ≤ 2 * k + 2) × (top N ≡ 2 * (2 * k + 1)) × (bottom N ≡ 2 * (3 * k + 1))
 unfolding termsFor largestOdd
-ratio-parts N = omega arith
+terms-parts N = omega arith
 
 top-le-bottom : (N : ℕ) → top N ≤ bottom N
-top-le-bottom N = omega (arith, ratio-parts N)
+top-le-bottom N = omega (arith, terms-parts N)
 
 bottom-pos : (N : ℕ) → 0 < bottom N
-bottom-pos N = omega (arith, ratio-parts N)
+bottom-pos N = omega (arith, terms-parts N)
 
 -- s reaches the part top / bottom of β
 abbrev pub Reaches : ℕ → ℕ → ℕ → Type 0
@@ -66,18 +67,18 @@ lacks-two N β a b t d h₁ h₂ r =
 -- 2 t + 1 short members lack too much, where t < n and n + m ≤ N
 pub not-lacks : (N β n m t e d : ℕ) → t < n → n + m ≤ N → t + e ≡ m → bottom N * (d + e * β) ≤ m * (top N * β) → Lacks N β (suc (t + t)) d → ⊥
 not-lacks N β n m t e d h₁ h₂ h₃ h₄ h₅ =
-    let (few, p, q) = ratio-parts N in
+    let (few, p, q) = terms-parts N in
     let t≤k : t ≤ (N - 1) / 2 = omega arith in
     omega (arith, simp (← h₃, p, q, expand) at h₄, simp (p, q, expand) at h₅, simp expand at (mul-le-mul-right β t≤k))
 
 -- more than m absent members lack too much
 pub not-absent : (N β m e d : ℕ) → 0 < β → m < e → bottom N * (d + e * β) ≤ m * (top N * β) → ⊥
 not-absent N β m e d h₁ h₂ h₃ =
-    let ratio = mul-le-mul-left m (mul-le-mul-right β (top-le-bottom N)) in
+    let below = mul-le-mul-left m (mul-le-mul-right β (top-le-bottom N)) in
     let absent = mul-le-mul-right (bottom N * β) h₂ in
-    omega (arith, mul-pos (bottom-pos N) h₁, simp expand at ratio, simp expand at absent, simp expand at h₃)
+    omega (arith, mul-pos (bottom-pos N) h₁, simp expand at below, simp expand at absent, simp expand at h₃)
 
--- terms that promise no more than the ratio of document 01
+-- terms that promise no more than those of document 01
 pub record Allowed (N : ℕ) (terms : Terms) : Type 0 where
   pub positive : 0 < terms .bottom
   pub lower : terms .top * bottom N ≤ top N * terms .bottom
@@ -89,15 +90,15 @@ module _ (N : ℕ) (terms : Terms) (allowed : Allowed N terms) where
   -- what reaches the part of document 01 reaches the part of allowed terms
   pub reaches-terms : (β s : ℕ) → Reaches N β s → terms .top * β ≤ terms .bottom * s
   reaches-terms β s h =
-      let ratio = mul-le-mul-right β (allowed .lower) in
+      let below = mul-le-mul-right β (allowed .lower) in
       let reach = mul-le-mul-left (terms .bottom) h in
-      let scaled : bottom N * (terms .top * β) ≤ bottom N * (terms .bottom * s) = simp expand (omega (arith, simp expand at ratio, simp expand at reach)) in
+      let scaled : bottom N * (terms .top * β) ≤ bottom N * (terms .bottom * s) = simp expand (omega (arith, simp expand at below, simp expand at reach)) in
       le-of-mul-le-mul-left scaled (bottom-pos N)
 
   -- what is at most m times the part of allowed terms is at most m times the part of document 01
   pub supply-terms : (v m β : ℕ) → terms .bottom * v ≤ m * (terms .top * β) → bottom N * v ≤ m * (top N * β)
   supply-terms v m β h =
-      let ratio = mul-le-mul-right (m * β) (allowed .lower) in
+      let below = mul-le-mul-right (m * β) (allowed .lower) in
       let supply = mul-le-mul-left (bottom N) h in
-      let scaled : terms .bottom * (bottom N * v) ≤ terms .bottom * (m * (top N * β)) = simp expand (omega (arith, simp expand at ratio, simp expand at supply)) in
+      let scaled : terms .bottom * (bottom N * v) ≤ terms .bottom * (m * (top N * β)) = simp expand (omega (arith, simp expand at below, simp expand at supply)) in
       le-of-mul-le-mul-left scaled (allowed .positive)

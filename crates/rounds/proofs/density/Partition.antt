@@ -19,23 +19,23 @@ pub data IsPartition (n : ℕ) : List ℕ → List ℕ → Type 0 where
   empty : IsPartition n [] []
   place : {c x : ℕ} {l values : List ℕ} → 1 ≤ c → c ≤ n → IsPartition n l values → IsPartition n (c ∷ l) (x ∷ values)
 
-pub partition-length : {n : ℕ} {l values : List ℕ} → IsPartition n l values → length l ≡ length values
-partition-length empty = refl
-partition-length (place h k r) = ap suc (partition-length r)
+pub isPartition-length : {n : ℕ} {l values : List ℕ} → IsPartition n l values → length l ≡ length values
+isPartition-length empty = refl
+isPartition-length (place h k r) = ap suc (isPartition-length r)
 
-pub partition-within : {n : ℕ} {l values : List ℕ} → IsPartition n l values → Within n l
-partition-within empty = tt
-partition-within (place h k r) = (h, k, partition-within r)
+pub isPartition-within : {n : ℕ} {l values : List ℕ} → IsPartition n l values → Within n l
+isPartition-within empty = tt
+isPartition-within (place h k r) = (h, k, isPartition-within r)
 
-pub within-partition : {n : ℕ} (l values : List ℕ) → Within n l → length l ≡ length values → IsPartition n l values
-within-partition [] [] w e = empty
-within-partition [] (x ∷ values) w e = absurd (omega arith)
-within-partition (c ∷ l) [] w e = absurd (omega arith)
-within-partition (c ∷ l) (x ∷ values) w e = place (w .0) (w .1) (within-partition l values (w .2) (omega arith))
+pub within-isPartition : {n : ℕ} (l values : List ℕ) → Within n l → length l ≡ length values → IsPartition n l values
+within-isPartition [] [] w e = empty
+within-isPartition [] (x ∷ values) w e = absurd (omega arith)
+within-isPartition (c ∷ l) [] w e = absurd (omega arith)
+within-isPartition (c ∷ l) (x ∷ values) w e = place (w .0) (w .1) (within-isPartition l values (w .2) (omega arith))
 
-pub partition-weaken : {n m : ℕ} {l values : List ℕ} → n ≤ m → IsPartition n l values → IsPartition m l values
-partition-weaken le empty = empty
-partition-weaken le (place h k r) = place h (le-trans k le) (partition-weaken le r)
+pub isPartition-weaken : {n m : ℕ} {l values : List ℕ} → n ≤ m → IsPartition n l values → IsPartition m l values
+isPartition-weaken le empty = empty
+isPartition-weaken le (place h k r) = place h (le-trans k le) (isPartition-weaken le r)
 
 -- x where c and d are the same bundle, and 0 where not
 abbrev pub valueIf : ℕ → ℕ → ℕ → ℕ

@@ -2,7 +2,6 @@
 use mathlib.Core.Path.{_≡_, refl, sym, ap, _∙_}
 use mathlib.Core.Bool.{Bool, true, false, not, cond, _||_, and-eq-true-iff}
 use mathlib.Core.List.{List, [], _∷_, map, List·Memᴰ as Mem, List·Memᴰ·head as here, List·Memᴰ·tail as there}
-use mathlib.Core.List.{Sublistᴰ as Sublist, Sublistᴰ·slnil as done, Sublistᴰ·cons as skip, Sublistᴰ·cons-cons as keep, Sublistᴰ·nil-sublist as nil-sublist}
 use Prim.Native.Nat.{ℕ, _+_}
 use native.Mathlib.Nat.{zero-add}
 use native.Mathlib.Omega.{arith}
@@ -11,17 +10,11 @@ use lib.ListN.{length}
 use borrow.Author.Tests.{eqb-true, not-true}
 use Rattle.lists.specs.Lists.{consIf, elem, distinct}
 use Rattle.lists.specs.Sums.{sumOver}
-use Rattle.lists.proofs.Distinct.{eqb-comm}
-use Rattle.lists.proofs.Totals.{sumOver-consIf, sumOver-add, sumOver-cong}
+use Rattle.lists.proofs.members.Distinct.{eqb-comm}
+use Rattle.lists.proofs.sums.Totals.{sumOver-consIf, sumOver-add, sumOver-cong}
 use Rattle.cut.specs.Share.{bundleValue}
-use Rattle.rounds.specs.Round.{itemsIn, bundle}
-use Rattle.rounds.proofs.Partition.{valueIf}
-
-pub itemsIn-sublist : (t : ℕ → Bool) (items l : List ℕ) → Sublist (itemsIn t items l) items
-itemsIn-sublist t [] l = done
-itemsIn-sublist t (k ∷ items) [] = nil-sublist (k ∷ items)
-itemsIn-sublist t (k ∷ items) (c ∷ l) = elim (t c) as (λ b. Sublist (consIf b k (itemsIn t items l)) (k ∷ items))
-    [ true ↦ keep refl (itemsIn-sublist t items l) | false ↦ skip (itemsIn-sublist t items l) ]
+use Rattle.bundling.specs.Bundles.{itemsIn, bundle}
+use Rattle.rounds.proofs.density.Partition.{valueIf}
 
 pub itemsIn-none : (t : ℕ → Bool) (items l : List ℕ) → ((c : ℕ) → Mem c l → t c ≡ false) → itemsIn t items l ≡ []
 itemsIn-none t [] l none = refl

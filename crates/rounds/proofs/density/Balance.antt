@@ -7,17 +7,17 @@ use native.Mathlib.Nat.{le-trans, le-of-eq, mul-le-mul-left, mul-add}
 use native.Mathlib.Omega.{arith}
 use Rattle.lists.specs.Lists.{range}
 use Rattle.lists.specs.Sums.{total}
-use Rattle.lists.proofs.Ranges.{range-bounds}
-use Rattle.lists.proofs.LeastOf.{leastOf-le, leastOf-attained}
+use Rattle.lists.proofs.ranges.Ranges.{range-bounds}
+use Rattle.lists.proofs.sums.LeastOf.{leastOf-le, leastOf-attained}
 use Rattle.cut.specs.Share.{bundleValue, leastBundle, maximinShare, maximinPartition}
 use Rattle.cut.proofs.Laws.{leastBundle-le-maximinShare, maximinPartition-within, leastBundle-maximinPartition}
-use Rattle.rounds.specs.Ratio.{Terms}
-use Rattle.rounds.proofs.Deficit.{deficit, deficit-le-total}
-use Rattle.rounds.proofs.Partition.{IsPartition, empty, place, partition-length, partition-within, within-partition}
-use Rattle.rounds.proofs.Regroup.{bundleValues, length-bundleValues, refines-bundleValues, total-bundleValues-le}
-use Rattle.rounds.proofs.Ratio.{top, bottom, Reaches, reaches-mono, Allowed, reaches-terms, supply-terms}
-use Rattle.rounds.proofs.Splitting.{Splits, splits-refine}
-use Rattle.rounds.proofs.Core.{Supplied, splits-supplied}
+use Rattle.rounds.specs.declared.Terms.{Terms}
+use Rattle.rounds.proofs.density.Deficit.{deficit, deficit-le-total}
+use Rattle.rounds.proofs.density.Partition.{IsPartition, empty, place, isPartition-length, isPartition-within, within-isPartition}
+use Rattle.rounds.proofs.density.Regroup.{bundleValues, length-bundleValues, refines-bundleValues, total-bundleValues-le}
+use Rattle.rounds.proofs.density.Terms.{top, bottom, Reaches, reaches-mono, Allowed, reaches-terms, supply-terms}
+use Rattle.rounds.proofs.density.Splitting.{Splits, splits-refine}
+use Rattle.rounds.proofs.density.Core.{Supplied, splits-supplied}
 
 -- a partition of all values, parted into what it does with the values inside a sub-list and with those outside
 record Parted (n : ℕ) (l values inside : List ℕ) : Type 0 where
@@ -68,7 +68,7 @@ splits-share : {N β n : ℕ} {values : List ℕ} → 1 ≤ n → Splits N β n 
 splits-share {N} {β} {n} {values} h s =
     let (c, lo, hi, least) = leastOf-attained (λ d. bundleValue d values (s .partition)) n h in
     let r = s .is-partition in
-    reaches-mono N β (le-trans (le-of-eq least) (leastBundle-le-maximinShare n values (s .partition) (partition-within r) (partition-length r))) (s .reaches c lo hi)
+    reaches-mono N β (le-trans (le-of-eq least) (leastBundle-le-maximinShare n values (s .partition) (isPartition-within r) (isPartition-length r))) (s .reaches c lo hi)
 
 -- n bundles of N = n + m, by allowed terms
 module _ (N n m : ℕ) (terms : Terms) (allowed : Allowed N terms) (some-agents : 1 ≤ n) (of-all : n + m ≡ N) where
@@ -86,7 +86,7 @@ module _ (N n m : ℕ) (terms : Terms) (allowed : Allowed N terms) (some-agents 
       l = maximinPartition N values
 
       best : IsPartition N l values
-      best = let w = maximinPartition-within N values (omega arith) in within-partition l values (w .0) (w .1)
+      best = let w = maximinPartition-within N values (omega arith) in within-isPartition l values (w .0) (w .1)
 
       p : Parted N l values inside
       p = parted s best

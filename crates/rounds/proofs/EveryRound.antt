@@ -1,0 +1,94 @@
+-- Every round of every division is as document 01, "Rounds", says, and begins with what the one before it left. Assumes nothing.
+use mathlib.Core.Path.{_≡_, refl, sym, _∙_}
+use mathlib.Core.Bool.{Bool}
+use mathlib.Core.List.{List, [], _∷_, map, List·Memᴰ as Mem}
+use Prim.Native.Nat.{ℕ, zero, suc, _≤_, _<_}
+use native.Mathlib.Nat.{le-of-eq}
+use native.Mathlib.Omega.{arith}
+use lib.ListN.{length, length-map}
+use Rattle.lists.specs.Lists.{range, Rising}
+use Rattle.lists.proofs.ranges.Ranges.{length-range}
+use Rattle.lists.proofs.places.Passing.{empty}
+use Rattle.lists.proofs.dictionary.Dictionary.{range-rising, pairwise-sublist}
+use Rattle.sheet.specs.Valuations.{itemValue}
+use Rattle.sheet.specs.Tables.{valuation}
+use Rattle.cut.specs.Share.{leastBundle, maximinShare}
+use Rattle.cut.proofs.Laws.{leastBundle-le-maximinShare, leastBundle-maximinPartition, maximinPartition-precedes}
+use Rattle.matching.specs.Matching.{cutterOf, chosenOf}
+use Rattle.matching.proofs.Cutter.{cutterOf-mem, cutterOf-lowest}
+use Rattle.matching.proofs.Serving.{waitingOf-largest, cutterOf-served}
+use Rattle.matching.proofs.Ties.{waitingOf-first, chosenOf-first}
+use Rattle.rounds.specs.Terms.{termsFor}
+use Rattle.rounds.specs.Round.{Instance, cutOf, Round, round, rounds}
+use Rattle.rounds.specs.Documented.{RoundAsDocumented, FollowOn}
+use Rattle.rounds.specs.Division.{standardInstance, allRounds}
+use Rattle.rounds.proofs.density.Terms.{termsFor-allowed}
+use Rattle.rounds.proofs.round.Parts.{cutSuits, round-begins, waiting-falls}
+use Rattle.rounds.proofs.round.Invariant.{Sound, Left, left-all, cut-within, matched}
+use Rattle.rounds.proofs.round.Rounds.{rounds-each}
+use Rattle.rounds.proofs.Allocation.{sound}
+
+module _ {N M : ℕ} {G : Instance} {agents items : List ℕ} (sound : Sound N M G) (some : 1 ≤ length agents) (state : Left N M G agents items) where
+  abbrev n : ℕ
+  n = length agents
+
+  -- the cutter's values of the items left
+  abbrev values : List ℕ
+  values = map (itemValue (valuation (G .valuations) (cutterOf agents))) items
+
+  rising : Rising agents
+  rising = pairwise-sublist (λ x y. x < y) (state .of-agents) (range-rising 1 N)
+
+  as-long : (l : List ℕ) → length l ≡ length items → length l ≡ length values
+  as-long l same = same ∙ sym (length-map items (itemValue (valuation (G .valuations) (cutterOf agents))))
+
+  reached : leastBundle n values (cutOf G agents items) ≡ maximinShare n values
+  reached = leastBundle-maximinPartition n values some
+
+  pub round-as-documented : RoundAsDocumented G (round G agents items)
+  unfolding round
+  round-as-documented =
+      record {
+        agents-rise = rising;
+        items-rise = pairwise-sublist (λ x y. x < y) (state .of-items) (range-rising 1 M);
+        cutter-left = cutterOf-mem agents some;
+        cutter-lowest = cutterOf-lowest agents rising;
+        cut = cutOf G agents items;
+        cut-partition = cut-within sound some state;
+        cut-greatest = λ l p. rw reached (leastBundle-le-maximinShare n values l (p .0) (as-long l (p .1)));
+        cut-first = λ l p same. maximinPartition-precedes n values some l (p .0) (as-long l (p .1)) (same ∙ reached);
+        waiting-tight = (waitingOf-largest suiting agents .sublist, waitingOf-largest suiting agents .bound);
+        waiting-largest = λ set t. waitingOf-largest suiting agents .largest set (t .0) (t .1);
+        waiting-first = λ set t. waitingOf-first suiting agents rising set (t .0) (t .1);
+        served-others = refl;
+        cutter-served = cutterOf-served suiting agents some;
+        chosen = chosenOf suiting agents;
+        chosen-serves = matched sound some state;
+        chosen-first = chosenOf-first suiting agents;
+        bundles-chosen = refl;
+        left-together = refl;
+      }
+    where
+      suiting : ℕ → ℕ → Bool
+      suiting = cutSuits G agents items
+
+-- every round of every division: n agents, m items and any table
+pub every-round-as-documented : (n m : ℕ) (table : List (List ℕ)) (r : Round) → Mem r (allRounds n m (standardInstance n m table))
+    → RoundAsDocumented (standardInstance n m table) r
+every-round-as-documented n m table =
+    let G = standardInstance n m table in
+    rounds-each (sound n m (termsFor n) table (termsFor-allowed n)) (RoundAsDocumented G) (λ agents items. round-as-documented (sound n m (termsFor n) table (termsFor-allowed n)))
+    n (range 1 n) (range 1 m) (left-all n m G)
+
+rounds-follow-on : (G : Instance) (most : ℕ) (agents items : List ℕ) → length agents ≤ most → FollowOn agents items (rounds G most agents items)
+unfolding rounds
+rounds-follow-on G zero agents items few = empty agents few
+rounds-follow-on G (suc most) [] items few = refl
+rounds-follow-on G (suc most) (a ∷ agents) items few =
+    let r = round G (a ∷ agents) items in
+    let (of-agents, of-items) = round-begins G (a ∷ agents) items in
+    (of-agents, of-items, rounds-follow-on G most (r .waiting) (r .left) (omega (arith, waiting-falls G (a ∷ agents) items (omega arith))))
+
+-- the rounds of every division begin with all agents and all items
+pub all-rounds-follow-on : (n m : ℕ) (table : List (List ℕ)) → FollowOn (range 1 n) (range 1 m) (allRounds n m (standardInstance n m table))
+all-rounds-follow-on n m table = rounds-follow-on (standardInstance n m table) n (range 1 n) (range 1 m) (le-of-eq (length-range 1 n))
