@@ -7,25 +7,26 @@ use native.Mathlib.Omega.{arith}
 use lib.ListN.{length, replicate, length-map}
 use lib.Seq.{take-at}
 use Rattle.lists.specs.Lists.{range}
-use Rattle.sheet.specs.Limits.{mostAgents, mostItems}
-use Rattle.sheet.specs.Sets.{items, setOf}
-use Rattle.sheet.proofs.Sets.{items-setOf}
-use Rattle.sheet.proofs.Ranges.{range-sublist}
-use Rattle.rounds.specs.Division.{Division, divided}
+use Rattle.lists.proofs.ranges.Ranges.{range-sublist}
+use Rattle.sheet.specs.Limits.{mostAgents, mostItems, setBits}
+use Rattle.sheet.specs.Answers.{accepted}
+use Rattle.sheet.specs.Sets.{itemsOf, setOf}
+use Rattle.sheet.proofs.sets.Sets.{items-setOf}
+use Rattle.rounds.specs.Division.{Division}
 use Rattle.division.specs.Outcome.{outcome}
 use Rattle.division.specs.Promise.{bundlesIn}
 
 module _ (m : ℕ) (few : m ≤ mostItems) where
-  pub items-setOf-bundle : {bundle : List ℕ} → Sublist bundle (range 1 m) → items (setOf bundle) ≡ bundle
-  items-setOf-bundle {bundle} s = items-setOf bundle (sublist-trans s (range-sublist 1 m 16 (omega arith)))
+  pub items-setOf-bundle : {bundle : List ℕ} → Sublist bundle (range 1 m) → itemsOf (setOf bundle) ≡ bundle
+  items-setOf-bundle {bundle} s = items-setOf bundle (sublist-trans s (range-sublist 1 m setBits (omega arith)))
 
-  pub items-setOf-each : (bundles : List (List ℕ)) → ((b : List ℕ) → Mem b bundles → Sublist b (range 1 m)) → map items (map setOf bundles) ≡ bundles
+  pub items-setOf-each : (bundles : List (List ℕ)) → ((b : List ℕ) → Mem b bundles → Sublist b (range 1 m)) → map itemsOf (map setOf bundles) ≡ bundles
   items-setOf-each [] of-items = refl
   items-setOf-each (b ∷ bundles) of-items =
       ap₂ (λ x xs. x ∷ xs) (items-setOf-bundle (of-items b (here refl))) (items-setOf-each bundles (λ c mc. of-items c (there mc)))
 
-  pub bundlesIn-divided : (n : ℕ) (d : Division) → length (d .bundles) ≡ n → ((b : List ℕ) → Mem b (d .bundles) → Sublist b (range 1 m)) → bundlesIn n (outcome (divided d)) ≡ d .bundles
+  pub bundlesIn-divided : (n : ℕ) (d : Division) → length (d .bundles) ≡ n → ((b : List ℕ) → Mem b (d .bundles) → Sublist b (range 1 m)) → bundlesIn n (outcome (accepted d)) ≡ d .bundles
   bundlesIn-divided n d each of-items =
       let sets = map setOf (d .bundles) in
-      ap (map items) (take-at sets (replicate (mostAgents - length sets) 0) n (length-map (d .bundles) setOf ∙ each))
+      ap (map itemsOf) (take-at sets (replicate (mostAgents - length sets) 0) n (length-map (d .bundles) setOf ∙ each))
       ∙ items-setOf-each (d .bundles) of-items

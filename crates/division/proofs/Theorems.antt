@@ -7,17 +7,18 @@ use Prim.Native.Nat.{ℕ, _≤_}
 use native.Mathlib.Omega.{arith}
 use lib.ListN.{length}
 use Rattle.lists.specs.Lists.{range}
-use Rattle.lists.proofs.Ranges.{in-range, range-bounds, length-range}
-use Rattle.lists.proofs.Counting.{sublist-mem, filter-all}
-use Rattle.sheet.specs.Limits.{mostItems}
-use Rattle.rounds.specs.Valuations.{AgreeInUse}
-use Rattle.rounds.specs.Ratio.{termsFor}
-use Rattle.rounds.specs.Division.{refused, divided, standardInstance, allocation, divisionOf, answer}
+use Rattle.lists.proofs.ranges.Ranges.{in-range, range-bounds, length-range}
+use Rattle.lists.proofs.members.Counting.{sublist-mem, filter-all}
+use Rattle.sheet.specs.Limits.{mostItems, CountsWithin}
+use Rattle.sheet.specs.Answers.{refused, accepted}
+use Rattle.sheet.specs.Tables.{AgreeInUse}
+use Rattle.rounds.specs.Terms.{termsFor}
+use Rattle.rounds.specs.Division.{standardInstance, allocation, divisionOf, divisionByRounds, answer}
 use Rattle.division.specs.Outcome.{outcome}
 use Rattle.division.specs.Promise.{isDivision, bundlesIn, allAgents, satisfiedAgents, Allocates, Promised}
-use Rattle.rounds.proofs.Ratio.{termsFor-allowed}
+use Rattle.rounds.proofs.density.Terms.{termsFor-allowed}
 use Rattle.rounds.proofs.Allocation.{length-allocation, allocation-sublist, holds-promised, item-in-one}
-use Rattle.rounds.proofs.Answers.{divisionByRounds, CountsWithin, answer-cases, answer-within-limits}
+use Rattle.rounds.proofs.Answers.{answer-cases, answer-within-limits}
 use Rattle.rounds.proofs.Theorems.{agreeing-tables-same-answer}
 use Rattle.division.proofs.Outcomes.{bundlesIn-divided}
 
@@ -42,13 +43,13 @@ module _ (n m : ℕ) (table : List (List ℕ)) where
         no-other-item = λ bundle mem k mk. let b = range-bounds 1 m (sublist-mem (allocation-sublist n m (termsFor n) table bundle mem) mk) in (b .0, omega arith);
       }
 
-  divided-bundles : m ≤ mostItems → bundlesIn n (outcome (divided (divisionByRounds n m table))) ≡ bundles
+  divided-bundles : m ≤ mostItems → bundlesIn n (outcome (accepted (divisionByRounds n m table))) ≡ bundles
   unfolding divisionOf
   divided-bundles few =
       bundlesIn-divided m few n (divisionByRounds n m table) (length-allocation n m (termsFor n) table) (allocation-sublist n m (termsFor n) table)
 
   -- what is promised of a division by the rounds
-  promised-divided : CountsWithin n m → Promised n m table (outcome (divided (divisionByRounds n m table)))
+  promised-divided : CountsWithin n m → Promised n m table (outcome (accepted (divisionByRounds n m table)))
   promised-divided w =
       record {
         satisfied-iff-division = λ some. (λ _. refl, λ _. rw (divided-bundles (w .few-items)) all-satisfied);
@@ -63,7 +64,7 @@ module _ (n m : ℕ) (table : List (List ℕ)) where
       record {
         satisfied-iff-division = λ some. (λ same. absurd (omega (arith, ap length same, length-range 1 n)), λ is. absurd (false≢true is));
         refusal-holds-nothing = λ _. refl;
-        within-limits-divided = λ some few some-items few-items. ap (λ a. isDivision (outcome a)) (sym e ∙ answer-within-limits n m table some few some-items few-items);
+        within-limits-divided = λ some few some-items few-items. ap (λ a. isDivision (outcome a)) (sym e ∙ answer-within-limits n m table (record { some = some; few = few; some-items = some-items; few-items = few-items }));
         division-allocates = λ is. absurd (false≢true is);
       }
 

@@ -9,9 +9,11 @@ use lib.Dec.{leb}
 use lib.ListN.{length, take}
 use Rattle.lists.specs.Lists.{range, zeros, filter, nth, count, elem}
 use Rattle.sheet.specs.Limits.{mostAgents, mostItems}
-use Rattle.sheet.specs.Sets.{items}
-use Rattle.rounds.specs.Ratio.{largestOdd}
-use Rattle.rounds.specs.Valuations.{valuation, value, shareOf}
+use Rattle.sheet.specs.Sets.{itemsOf}
+use Rattle.rounds.specs.Terms.{largestOdd}
+use Rattle.sheet.specs.Valuations.{value}
+use Rattle.sheet.specs.Tables.{valuation}
+use Rattle.shares.specs.Shares.{shareOf}
 use Rattle.division.specs.declared.Answer.{Answer}
 use Rattle.division.specs.declared.Answer.the-variants.{Refused, Divided}
 use Rattle.division.specs.declared.Outcome.{Outcome}
@@ -26,7 +28,7 @@ isDivision r = isDivided (r .answer)
 
 -- the bundles (piles) in the answer for n agents: "A division has one pile for each of these yards", and "a refusal has no pile"
 abbrev pub bundlesIn : ℕ → Outcome → List (List ℕ)
-bundlesIn n r = cond (isDivision r) (map items (take n (r .bundles))) []
+bundlesIn n r = cond (isDivision r) (map itemsOf (take n (r .bundles))) []
 
 -- "The first list is the numbers from 1 to the count of yards, rising"
 abbrev pub allAgents : ℕ → List ℕ

@@ -1,53 +1,51 @@
 // Which bundles suit whom: a bundle suits an agent when bottom × value is at least top × the agent's share.
 ghost use mathlib.Core.Path.{_≡_};
-ghost use Prim.Native.Nat.{_*_, _≤_};
-ghost use lib.Dec.{leb};
-ghost use Rattle.sheet.specs.Sets.{items};
-ghost use Rattle.rounds.specs.Valuations.{valuation, value};
-ghost use Rattle.division.specs.internal.Suiting.{greatestValue, SmallTerms, SmallShares, fitsRow, fitsTable};
-use crate::serving::Fits;
-use crate::sets::Sets;
-use crate::value::value_of;
+ghost use Prim.Native.Nat.{_≤_};
+ghost use Rattle.sheet.specs.Limits.{greatestSum};
+ghost use Rattle.sheet.specs.Amounts.{SmallAmounts};
+ghost use Rattle.division.specs.internal.Suiting.{SmallTerms, setSuits, suitsRow, suitsTable};
+use rounds::Terms;
+use serving::Suits;
 use sheet::Row;
+use sheet::Sets;
 use sheet::Sheet;
 use sheet::Table;
-
-// A share for each agent, from the first upward.
-pub type Shares = [u64; Sheet::YARDS];
+use sheet::amounts::Amounts;
+use sheet::valuing::value_of;
 
 // Whether the items of the set suit an agent with this valuation and share.
-fn set_suits(valuation: Row, share: u64, top: u64, bottom: u64, set: u16) -> bool
-    requires { ⌜ SmallTerms top bottom × (share ≤ greatestValue) ⌝ }
-    ensures { λ r. ⌜ r ≡ leb (top * share) (bottom * value valuation (items set)) ⌝ }
+fn set_suits(valuation: Row, share: u64, terms: Terms, set: u16) -> bool
+    requires { ⌜ SmallTerms terms × (share ≤ greatestSum) ⌝ }
+    ensures { λ r. ⌜ r ≡ setSuits valuation share terms set ⌝ }
 {
-    top * share <= bottom * value_of(valuation, set)
+    terms.top * share <= terms.bottom * value_of(valuation, set)
 }
 
 // Which of the sets suit an agent with this valuation and share.
-fn fits_row(valuation: Row, share: u64, top: u64, bottom: u64, sets: Sets) -> [bool; Sheet::YARDS]
-    requires { ⌜ SmallTerms top bottom × (share ≤ greatestValue) ⌝ }
-    ensures { λ r. ⌜ r ≡ fitsRow valuation share top bottom sets ⌝ }
+fn suits_row(valuation: Row, share: u64, terms: Terms, sets: Sets) -> [bool; Sheet::AGENTS]
+    requires { ⌜ SmallTerms terms × (share ≤ greatestSum) ⌝ }
+    ensures { λ r. ⌜ r ≡ suitsRow valuation share terms sets ⌝ }
 {
-    let mut row = [false; Sheet::YARDS];
+    let mut row = [false; Sheet::AGENTS];
     let mut i: usize = 0;
-    while i < Sheet::YARDS {
-        row[i] = set_suits(valuation, share, top, bottom, sets[i]);
+    while i < Sheet::AGENTS {
+        row[i] = set_suits(valuation, share, terms, sets[i]);
         i += 1;
     }
     row
 }
 
 // Which of the sets suit which agent.
-pub(crate) fn fits_table(table: Table, shares: Shares, top: u64, bottom: u64, sets: Sets) -> Fits
-    requires { ⌜ SmallTerms top bottom × SmallShares shares ⌝ }
-    ensures { λ r. ⌜ r ≡ fitsTable table shares top bottom sets ⌝ }
+pub(crate) fn suits_table(table: Table, shares: Amounts, terms: Terms, sets: Sets) -> Suits
+    requires { ⌜ SmallTerms terms × SmallAmounts shares ⌝ }
+    ensures { λ r. ⌜ r ≡ suitsTable table shares terms sets ⌝ }
 {
-    let mut fits = [[false; Sheet::YARDS]; Sheet::YARDS];
+    let mut suits = [[false; Sheet::AGENTS]; Sheet::AGENTS];
     let mut i: usize = 0;
-    while i < Sheet::YARDS {
+    while i < Sheet::AGENTS {
         let valuation = table[i];
-        fits[i] = fits_row(valuation, shares[i], top, bottom, sets);
+        suits[i] = suits_row(valuation, shares[i], terms, sets);
         i += 1;
     }
-    fits
+    suits
 }

@@ -1,26 +1,19 @@
--- What a caller by C's calling convention is answered, and what its lent places hold afterwards. Assumes nothing: these are definitions.
+-- What a division puts into the places that a caller by C's calling convention lends. Assumes nothing: these are definitions.
 use mathlib.Core.List.{List, map}
 use Prim.Native.Nat.{ℕ}
+use Rattle.lists.specs.Lists.{padded}
+use Rattle.sheet.specs.Limits.{mostAgents}
 use Rattle.sheet.specs.Sets.{setOf}
-use Rattle.rounds.specs.Division.{Answer, refused, divided}
-use Rattle.division.specs.Outcome.{perAgent}
+use Rattle.rounds.specs.Division.{Division}
 
--- 0, or the number of the refusal
-abbrev pub numberOf : Answer → ℕ
-numberOf (refused number) = number
-numberOf (divided d) = 0
+-- the grade
+abbrev pub storeGrade : Division → ℕ → ℕ
+storeGrade d old = d .grade
 
--- the place of the grade: its old content on a refusal
-abbrev pub gradeAfter : Answer → ℕ → ℕ
-gradeAfter (refused number) old = old
-gradeAfter (divided d) old = d .grade
+-- the bundles, as sets: a place for each agent that a sheet may have
+abbrev pub storeBundles : Division → List ℕ → List ℕ
+storeBundles d old = padded mostAgents 0 (map setOf (d .bundles))
 
--- the places of the bundles, as sets: their old content on a refusal
-abbrev pub bundlesAfter : Answer → List ℕ → List ℕ
-bundlesAfter (refused number) old = old
-bundlesAfter (divided d) old = perAgent 0 (map setOf (d .bundles))
-
--- the places of the cutters: their old content on a refusal
-abbrev pub cuttersAfter : Answer → List ℕ → List ℕ
-cuttersAfter (refused number) old = old
-cuttersAfter (divided d) old = perAgent 0 (d .cutters)
+-- the cutters
+abbrev pub storeCutters : Division → List ℕ → List ℕ
+storeCutters d old = padded mostAgents 0 (d .cutters)

@@ -1,28 +1,29 @@
 // Dividing a table for callers in C or Rust, by C's calling convention.
 ghost use mathlib.Core.Path.{_≡_};
+ghost use Rattle.sheet.specs.Answers.{numberOf, after};
 ghost use Rattle.rounds.specs.Division.{answer};
-ghost use Rattle.division_c.specs.Lent.{numberOf, gradeAfter, bundlesAfter, cuttersAfter};
+ghost use Rattle.division_c.specs.Lent.{storeGrade, storeBundles, storeCutters};
 use division::Answer;
 use sheet::Sheet;
 use sheet::Table;
 
-// Divides the table among `yards` agents. Answers 0 and stores the grade, each agent's bundle as a set of items and the cutter of each
+// Divides the table among `agents` agents (yards). Answers 0 and stores the grade, each agent's bundle as a set of items and the cutter of each
 // round, 0 after the last; or answers the number of the refusal and stores nothing.
 #[no_mangle]
 pub extern "C" fn divide_table(
     table: &Table,
-    yards: u8,
-    pieces: u8,
+    agents: usize,
+    items: usize,
     grade: &mut u8,
-    bundles: &mut [u16; Sheet::YARDS],
-    cutters: &mut [u8; Sheet::YARDS],
+    bundles: &mut [u16; Sheet::AGENTS],
+    cutters: &mut [u8; Sheet::AGENTS],
 ) -> u8
-    ensures answer { λ r. ⌜ r ≡ numberOf (answer yards pieces (now (table .entry))) ⌝ }
-    ensures grade { λ r. ⌜ now (grade .exit) ≡ gradeAfter (answer yards pieces (now (table .entry))) (now (grade .entry)) ⌝ }
-    ensures bundles { λ r. ⌜ now (bundles .exit) ≡ bundlesAfter (answer yards pieces (now (table .entry))) (now (bundles .entry)) ⌝ }
-    ensures cutters { λ r. ⌜ now (cutters .exit) ≡ cuttersAfter (answer yards pieces (now (table .entry))) (now (cutters .entry)) ⌝ }
+    ensures answer { λ r. ⌜ r ≡ numberOf (answer agents items (now (table .entry))) ⌝ }
+    ensures grade { λ r. ⌜ now (grade .exit) ≡ after storeGrade (answer agents items (now (table .entry))) (now (grade .entry)) ⌝ }
+    ensures bundles { λ r. ⌜ now (bundles .exit) ≡ after storeBundles (answer agents items (now (table .entry))) (now (bundles .entry)) ⌝ }
+    ensures cutters { λ r. ⌜ now (cutters .exit) ≡ after storeCutters (answer agents items (now (table .entry))) (now (cutters .entry)) ⌝ }
 {
-    let outcome = division::divide(*table, yards as usize, pieces as usize);
+    let outcome = division::divide(*table, agents, items);
     let answer = outcome.answer;
     match answer {
         Answer::Refused(number) => number,

@@ -1,12 +1,9 @@
 -- What the contracts of `dividing` cite: the allocation after some rounds, as the code has it. Assumes nothing: these are definitions.
 use mathlib.Core.List.{List, [], _∷_, map}
-use Prim.Native.Nat.{ℕ, _+_, _-_, _≤_}
+use Prim.Native.Nat.{ℕ, _+_, _-_}
 use lib.ListN.{length, getD, drop, set}
-use Rattle.sheet.specs.Limits.{mostAgents}
 use Rattle.sheet.specs.Sets.{setOf}
 use Rattle.rounds.specs.Round.{Instance, Round, rounds}
-use Rattle.division.specs.internal.Suiting.{SmallTerms, SmallShares}
-use Rattle.division.specs.internal.Settling.{Remaining}
 use Rattle.division.specs.declared.dividing.Allocation.{Allocation}
 
 -- the places with the set of each agent served in its place, and 0 where the sets are too few
@@ -27,10 +24,3 @@ allotted (r ∷ rs) a = allotted rs (withRound (r .cutter) (r .served) (map setO
 -- the allocation once the agents left have divided the items left
 abbrev pub allottedAll : Instance → List ℕ → List ℕ → Allocation → Allocation
 allottedAll G agents items a = allotted (rounds G (length agents) agents items) a
-
--- where the rounds may start: what they are handed is small enough, and there is a place for each round
-pub record Ready (top bottom : ℕ) (shares agents : List ℕ) (set : ℕ) (a : Allocation) : Type 0 where
-  pub terms : SmallTerms top bottom
-  pub light : SmallShares shares
-  pub left : Remaining agents set
-  pub places : a .rounds + length agents ≤ mostAgents

@@ -1,115 +1,109 @@
--- `division::settling::settle_round` meets its contract: the cut's partition, its sets and the table of what suits whom are those of
--- the definition's round. Assumes nothing.
-use mathlib.Core.Path.{_≡_, sym, ap, _∙_}
-use mathlib.Core.List.{List, []}
-use Prim.Native.Nat.{ℕ, _-_, _≤_}
-use native.Mathlib.Omega.{arith}
-use lib.ListN.{length, getD}
+-- `settling::settle_round` meets its contract: the sets of the cutter's bundles, the table of what suits whom and the serving are those
+-- of the definition's round. Assumes nothing.
+use mathlib.Core.Path.{_≡_, ap, _∙_}
+use mathlib.Core.Bool.{Bool}
+use mathlib.Core.List.{List, map}
+use Prim.Native.Nat.{ℕ, _-_}
 use borrow.Author.Needs.{needs}
+use Rattle.lists.specs.Lists.{nth, padded}
+use Rattle.lists.specs.Sums.{total}
 use Rattle.sheet.specs.Limits.{mostAgents}
-use Rattle.sheet.specs.Sets.{items}
-use Rattle.cut.specs.Outcome.{padded}
-use Rattle.sheet.specs.Valuations.{valuesOf}
-use Rattle.rounds.specs.Valuations.{valuation}
-use Rattle.rounds.specs.Round.{cutterOf, cutBy}
-use Rattle.division.specs.internal.Numbers.{fitsOf}
-use Rattle.division.specs.internal.Sets.{bundleSets}
-use Rattle.division.specs.internal.Suiting.{fitsTable}
-use Rattle.division.specs.internal.Settling.{instanceFrom, settledBy}
-use Rattle.lists.proofs.Passing.{within-at}
-use Rattle.division.proofs.SettledBy.{cutter-first}
-use Rattle.division.proofs.SettledRound.{cut-partition, cutSets-parts, settled-round}
+use Rattle.sheet.specs.Listed.{numbered, listed}
+use Rattle.sheet.proofs.listing.Listed.{listed-is, count-listed, count-places}
+use Rattle.bundling.specs.Bundles.{bundleSets}
+use Rattle.serving.specs.Serving.{suitsOf, agentsIn, servingOf}
+use Rattle.serving.proofs.round.AgentsLeft.{agentsIn-sublist}
+use Rattle.serving.proofs.round.Parts.{chosen-few}
+use Rattle.division.specs.internal.Suiting.{suitsTable}
+use Rattle.division.proofs.round.CutSets.{cutSets, suiting, serving-same, handed, handed-within, handed-part, settled-round}
 use Rattle.division.proofs.settling.settle_round.Statement.{statement}
 use Rattle.division.proofs.settling.settle_round.Tie as tie
 
--- the cutter is one of the agents that a table has
-cutter-within : (c : tie.Start) → (1 ≤ getD (c .args .agents .now) 0 0) × (getD (c .args .agents .now) 0 0 ≤ mostAgents)
-cutter-within c = within-at mostAgents (c .args .agents .now) (c .pre .0 .2 .within) 0 (c .pre .0 .3)
-
--- the row that is read is the cutter's
-row-is : (c : tie.Start) → let a = c .args in getD (a .t1) (getD (a .agents .now) 0 0 - 1) [] ≡ valuation (a .t1) (cutterOf (a .agents .now))
-row-is c = ap (λ k. getD (c .args .t1) (k - 1) []) (cutter-first (c .pre .0 .2) (c .pre .0 .3))
-
--- the sets of the bundles of the cutter's partition
-abbrev cut-sets : tie.Start → List ℕ
-cut-sets c =
-    let a = c .args in
-    bundleSets (a .set) (padded (cutBy (instanceFrom (a .top) (a .bottom) (a .t1) (a .shares)) (cutterOf (a .agents .now)) (length (a .agents .now)) (items (a .set))))
-
-sets-are : (c : tie.After-bundle-sets) → c .bundle-sets .result ≡ cut-sets (c .before .before .before .before .before)
-sets-are c =
-    let at-cut = c .before in
-    let start = at-cut .before .before .before .before in
-    let a = start .args in
-    c .bundle-sets .ensures
-    ∙ ap (bundleSets (a .set)) (at-cut .cut-left .ensures ∙ cut-partition (start .pre .0 .2) (start .pre .0 .3) (a .top) (a .bottom) (a .t1) (a .shares) _ (row-is start))
-
--- the table says which of them suit whom
-fits-are : (c : tie.After-fits-table)
-    → let start = c .before .before .before .before .before .before in
-    let a = start .args in
-    c .fits-table .result ≡ fitsTable (a .t1) (a .shares) (a .top) (a .bottom) (cut-sets start)
-fits-are c =
-    let a = c .before .before .before .before .before .before .args in
-    c .fits-table .ensures ∙ ap (fitsTable (a .t1) (a .shares) (a .top) (a .bottom)) (sets-are (c .before))
-
-shared-slice-read-cutter : tie.Need-shared-slice-read-cutter
-shared-slice-read-cutter c = search needs
-
-cast-cutter : tie.Need-cast-cutter
-cast-cutter c = omega (arith, cutter-within (c .before .before))
-
-sub-valuation : tie.Need-sub-valuation
-sub-valuation c = cutter-within (c .before .before) .0
-
-mul-valuation : tie.Need-mul-valuation
-mul-valuation c = omega (arith, cutter-within (c .before .before))
-
-array-copy-out-valuation : tie.Need-array-copy-out-valuation
-array-copy-out-valuation c = omega (arith, cutter-within (c .before .before))
-
-cut-left-requires : tie.Need-cut-left-requires
-unfolding valuesOf
-cut-left-requires c κs =
-    let start = c .before .before .before in
-    let a = start .args in
-    let left = start .pre .0 .2 in
-    (start .pre .0 .3, left .few, left .small-set, λ all. start .pre .1 all ∙ sym (cut-partition left (start .pre .0 .3) (a .top) (a .bottom) (a .t1) (a .shares) _ (row-is start)))
-
 bundle-sets-requires : tie.Need-bundle-sets-requires
-bundle-sets-requires c κs = c .before .before .before .before .pre .0 .2 .small-set
+bundle-sets-requires c κs = search needs
 
-fits-table-requires : tie.Need-fits-table-requires
-fits-table-requires c κs = let start = c .before .before .before .before .before in (start .pre .0 .0, start .pre .0 .1)
+suits-table-requires : tie.Need-suits-table-requires
+suits-table-requires c κs = search needs
 
-settle-requires : tie.Need-settle-requires
-settle-requires c κs =
-    let at-sets = c .before in
-    let start = at-sets .before .before .before .before .before in
-    let a = start .args in
-    (start .pre .0 .2, rw (sets-are at-sets) (cutSets-parts (start .pre .0 .2) (start .pre .0 .3) (a .top) (a .bottom) (a .t1) (a .shares)), start .pre .0 .3)
+serve-requires : tie.Need-serve-requires
+serve-requires c κs = search needs
+
+-- what the parts of the round are called with, at its start
+module _ (s : tie.Start) where
+  abbrev sets-of : List ℕ
+  sets-of = cutSets (s .pre .0 .2) (s .args .terms) (s .args .table) (s .args .shares)
+
+  abbrev suits-of : ℕ → ℕ → Bool
+  suits-of = suiting (s .pre .0 .2) (s .args .terms) (s .args .table) (s .args .shares)
+
+  abbrev handed-of : List ℕ
+  handed-of = handed (s .pre .0 .2) (s .args .terms) (s .args .table) (s .args .shares)
+
+sets-are : (c : tie.After-bundle-sets) → c .bundle-sets .result ≡ sets-of (c .before)
+sets-are c = c .bundle-sets .ensures ∙ ap (bundleSets (c .before .args .set)) (c .before .pre .1)
+
+serving-is : (c : tie.After-serve) → let s = c .before .before .before in c .serve .result ≡ servingOf (suits-of s) (agentsIn (s .args .left))
+serving-is c =
+    let s = c .before .before .before in
+    let a = s .args in
+    c .serve .ensures
+    ∙ ap (λ t. servingOf (suitsOf t) (agentsIn (a .left))) (c .before .suits-table .ensures ∙ ap (suitsTable (a .table) (a .shares) (a .terms)) (sets-are (c .before .before)))
+    ∙ serving-same (s .pre .0 .2) (a .terms) (a .table) (a .shares)
+
+chosen-is : (c : tie.After-serve) → c .serve .result .chosen ≡ numbered (handed-of (c .before .before .before))
+unfolding servingOf
+chosen-is c = ap (λ r. r .chosen) (serving-is c)
+
+chosen-listed : (c : tie.After-serve) → listed (c .serve .result .chosen) ≡ handed-of (c .before .before .before)
+chosen-listed c = listed-is (handed-of (c .before .before .before)) (chosen-is c)
+
+array-share-prefix-numbers : tie.Need-array-share-prefix-numbers
+array-share-prefix-numbers c = let at-serve = c .before .before in count-places (handed-of (at-serve .before .before .before)) (chosen-is at-serve)
+
+slice-aggregate-chosen-sets : tie.Need-slice-aggregate-chosen-sets
+slice-aggregate-chosen-sets c = let at-serve = c .before .before .before in count-listed (handed-of (at-serve .before .before .before)) (chosen-is at-serve)
+
+chosen-sets-requires : tie.Need-chosen-sets-requires
+chosen-sets-requires c κs =
+    let at-serve = c .before .before .before in
+    let s = at-serve .before .before .before in
+    rw (chosen-listed at-serve)
+    (handed-within (s .pre .0 .2) (s .args .terms) (s .args .table) (s .args .shares), chosen-few (suits-of s) (agentsIn-sublist (s .args .left)))
+
+-- the sets that are handed out
+handed-is : (c : tie.After-chosen-sets)
+    → let s = c .before .before .before .before .before .before .before in
+    c .chosen-sets .result ≡ padded mostAgents 0 (map (nth 0 (sets-of s)) (handed-of s))
+handed-is c =
+    let at-serve = c .before .before .before .before in
+    c .chosen-sets .ensures
+    ∙ ap (λ l. padded mostAgents 0 (map (nth 0 (at-serve .before .before .bundle-sets .result)) l)) (chosen-listed at-serve)
+    ∙ ap (λ sets. padded mostAgents 0 (map (nth 0 sets) (handed-of (at-serve .before .before .before)))) (sets-are (at-serve .before .before))
+
+left-of-requires : tie.Need-left-of-requires
+left-of-requires c κs =
+    let s = c .before .before .before .before .before .before .before .before in
+    rw (handed-is (c .before)) (handed-part (s .pre .0 .2) (s .args .terms) (s .args .table) (s .args .shares))
 
 returns : tie.Need-returns
+unfolding servingOf
 returns c =
-    let at-sets = c .before .before in
-    let start = at-sets .before .before .before .before .before in
-    let a = start .args in
-    c .settle .ensures
-    ∙ ap (λ sets. settledBy (fitsOf (c .before .fits-table .result)) sets (a .agents .now) (a .set)) (sets-are at-sets)
-    ∙ ap (λ t. settledBy (fitsOf t) (cut-sets start) (a .agents .now) (a .set)) (fits-are (c .before))
-    ∙ settled-round (start .pre .0 .2) (start .pre .0 .3) (a .top) (a .bottom) (a .t1) (a .shares)
+    let at-handed = c .before .before in
+    let at-serve = at-handed .before .before .before .before in
+    let s = at-serve .before .before .before in
+    let sets = padded mostAgents 0 (map (nth 0 (sets-of s)) (handed-of s)) in
+    let left-is : c .left-of .result ≡ s .args .set - total sets = c .left-of .ensures ∙ ap (λ l. s .args .set - total l) (handed-is at-handed) in
+    rw (serving-is at-serve, handed-is at-handed) (settled-round (s .pre .0 .2) (s .args .terms) (s .args .table) (s .args .shares) (c .left-of .result) left-is)
 
 pub settle-round-spec : {M : Type 1} → statement M
 settle-round-spec =
     tie.close
     (tie.spec
-    shared-slice-read-cutter
-    cast-cutter
-    sub-valuation
-    mul-valuation
-    array-copy-out-valuation
-    cut-left-requires
     bundle-sets-requires
-    fits-table-requires
-    settle-requires
+    suits-table-requires
+    serve-requires
+    array-share-prefix-numbers
+    slice-aggregate-chosen-sets
+    chosen-sets-requires
+    left-of-requires
     returns)

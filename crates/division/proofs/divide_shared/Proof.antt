@@ -1,0 +1,96 @@
+-- `division::divide_shared` meets its contract: what the rounds hand out, its grade, the shares and the cuts are those of the definition.
+-- Assumes nothing.
+use mathlib.Core.Path.{_≡_, ap, ap₂, _∙_}
+use mathlib.Core.List.{[]}
+use Prim.Native.Nat.{ℕ}
+use native.Mathlib.Omega.{arith}
+use lib.ListN.{getD}
+use borrow.Author.Needs.{needs}
+use Rattle.sheet.specs.Limits.{mostAgents, mostItems}
+use Rattle.sheet.specs.Sets.{itemsOf}
+use Rattle.shares.specs.Shares.{sharing}
+use Rattle.shares.specs.Outcome.{outcome}
+use Rattle.shares.specs.declared.Cut.{Cut}
+use Rattle.shares.specs.declared.Outcome.{Outcome}
+use Rattle.serving.specs.Serving.{agentsIn}
+use Rattle.rounds.specs.Terms.{termsFor}
+use Rattle.rounds.specs.declared.Terms.{Terms}
+use Rattle.division.specs.internal.Left.{instanceFrom}
+use Rattle.division.specs.internal.Allocation.{allottedAll}
+use Rattle.division.specs.declared.dividing.Allocation.{Allocation}
+use Rattle.division.proofs.rounds.AllRounds.{nothing}
+use Rattle.division.proofs.rounds.Accepted.{upTo-is, allAgents, allItems, ready-all, first-cut, placedSets, placedCutters, allotted-accepted, outcome-accepted}
+use Rattle.division.proofs.divide_shared.Statement.{statement}
+use Rattle.division.proofs.divide_shared.Tie as tie
+
+array-copy-out-first : tie.Need-array-copy-out-first
+array-copy-out-first c = search needs
+
+terms-for-requires : tie.Need-terms-for-requires
+terms-for-requires c κs = search needs
+
+all-items-requires : tie.Need-all-items-requires
+all-items-requires c κs = search needs
+
+all-items-requires-2 : tie.Need-all-items-requires-2
+all-items-requires-2 c κs = search needs
+
+-- the set of all agents, and that of all items
+agents-are : (c : tie.After-all-items) → let s = c .before .before .before .before .before .before in c .all-items .result ≡ allAgents (s .args .agents) (s .args .items) (s .args .table) (s .pre .counts)
+agents-are c =
+    let s = c .before .before .before .before .before .before in
+    c .all-items .ensures ∙ upTo-is (s .args .agents) mostAgents (s .pre .counts .few) (omega arith)
+
+items-are : (c : tie.After-all-items2) → let s = c .before .before .before .before .before .before .before in c .all-items2 .result ≡ allItems (s .args .agents) (s .args .items) (s .args .table) (s .pre .counts)
+items-are c =
+    let s = c .before .before .before .before .before .before .before in
+    c .all-items2 .ensures ∙ upTo-is (s .args .items) mostItems (s .pre .counts .few-items) (omega arith)
+
+divide-left-requires : tie.Need-divide-left-requires
+divide-left-requires c κs =
+    let s = c .before .before .before .before .before .before .before in
+    let a = s .args in
+    let none : Cut = record { partition = [] } in
+    rw (c .before .before .terms-for .ensures, agents-are (c .before), items-are c) (
+      ready-all (a .agents) (a .items) (a .table) (s .pre .counts) (a .own .shares) (s .pre .small-shares),
+      ap (λ o. getD (o .cuts) 0 none .partition) (s .pre .own-shares) ∙ first-cut (a .agents) (a .items) (a .table) (s .pre .counts) none,
+    )
+
+grade-of-requires : tie.Need-grade-of-requires
+grade-of-requires c κs = search needs
+
+-- what the rounds hand out
+handed : (c : tie.After-divide-left)
+    → let s = c .before .before .before .before .before .before .before .before in
+    (c .divide-left .result .bundles ≡ placedSets (s .args .agents) (s .args .items) (s .args .table) (s .pre .counts))
+    × (c .divide-left .result .cutters ≡ placedCutters (s .args .agents) (s .args .items) (s .args .table) (s .pre .counts))
+handed c =
+    let s = c .before .before .before .before .before .before .before .before in
+    let a = s .args in
+    let run : Terms → Outcome → ℕ → ℕ → Allocation = λ terms own left set. allottedAll (instanceFrom terms (a .table) (own .shares)) (agentsIn left) (itemsOf set) nothing in
+    let out =
+    c .divide-left .ensures
+    ∙ ap₂ (λ terms own. run terms own (c .before .before .all-items .result) (c .before .all-items2 .result)) (c .before .before .before .terms-for .ensures) (s .pre .own-shares)
+    ∙ ap₂ (run (termsFor (a .agents)) (outcome (sharing (a .agents) (a .items) (a .table)))) (agents-are (c .before .before)) (items-are (c .before)) in
+    let accepted = allotted-accepted (a .agents) (a .items) (a .table) (s .pre .counts) in
+    (ap (λ r. r .bundles) out ∙ accepted .0, ap (λ r. r .cutters) out ∙ accepted .1)
+
+returns : tie.Need-returns
+returns c =
+    let at-handed = c .before .before .before in
+    let s = at-handed .before .before .before .before .before .before .before .before in
+    let a = s .args in
+    outcome-accepted (a .agents) (a .items) (a .table) (s .pre .counts) (c .grade-of .result) (at-handed .divide-left .result .bundles) (at-handed .divide-left .result .cutters) (a .own)
+    (c .grade-of .ensures) (handed at-handed .0) (handed at-handed .1) (s .pre .own-shares)
+
+pub divide-shared-spec : {M : Type 1} → statement M
+divide-shared-spec =
+    tie.close
+    (tie.spec
+    array-copy-out-first
+    terms-for-requires
+    all-items-requires
+    all-items-requires-2
+    divide-left-requires
+    grade-of-requires
+    returns)

@@ -1,0 +1,141 @@
+-- A table that is not refused: where its rounds start, what they hand out, and the grade of that. Assumes nothing.
+use mathlib.Core.Path.{_≡_, refl, sym, ap, ap₂, _∙_}
+use mathlib.Core.List.{List, [], _∷_, map, List·Memᴰ as Mem, List·Memᴰ·head as here, List·Memᴰ·tail as there}
+use mathlib.Core.List.{Sublistᴰ as Sublist, Sublistᴰ·nil-sublist as nil-sublist}
+use Prim.Native.Nat.{ℕ, zero, suc, _-_, _^_, _≤_, _<_, min}
+use native.Mathlib.Omega.{arith}
+use lib.ListN.{length, getD, List·getD-map}
+use Rattle.lists.specs.Lists.{range, padded}
+use Rattle.lists.proofs.ranges.Ranges.{length-range, range-sublist}
+use Rattle.sheet.specs.Limits.{mostAgents, mostItems, setBits, CountsWithin}
+use Rattle.sheet.specs.Answers.{accepted}
+use Rattle.sheet.specs.Sets.{itemsOf, setOf}
+use Rattle.sheet.specs.Tables.{valuation, allValues, profile}
+use Rattle.sheet.specs.Amounts.{SmallAmounts}
+use Rattle.sheet.proofs.sets.Sets.{items-setOf}
+use Rattle.sheet.proofs.sets.Ranges.{setOf-below}
+use Rattle.cut.specs.Share.{maximinShare, maximinPartition}
+use Rattle.cut.specs.Outcome.{placed}
+use Rattle.shares.specs.Shares.{sharing}
+use Rattle.shares.specs.Outcome.{cutOf, blankCut, outcome as sharesOutcome}
+use Rattle.shares.specs.declared.Cut.{Cut}
+use Rattle.shares.specs.declared.Outcome.{Outcome as SharesOutcome}
+use Rattle.shares.proofs.Profile.{nth-shares}
+use Rattle.shares.proofs.Outcomes.{shares-within, cuts-within, nth-share}
+use Rattle.grading.specs.Grade.{grade, gradeIn}
+use Rattle.grading.proofs.Grades.{grade-cong, gradeIn-within}
+use Rattle.serving.specs.Serving.{agentsIn}
+use Rattle.serving.proofs.round.AgentsLeft.{agentsIn-items}
+use Rattle.rounds.specs.Terms.{largestOdd, termsFor}
+use Rattle.rounds.specs.Division.{standardInstance, allRounds, allocation, divisionOf, divisionByRounds}
+use Rattle.rounds.proofs.density.Terms.{termsFor-allowed}
+use Rattle.rounds.proofs.Allocation.{sound, allocation-sublist}
+use Rattle.division.specs.Outcome.{outcome}
+use Rattle.division.specs.internal.Left.{cutByLowest, Ready}
+use Rattle.division.specs.internal.Allocation.{allottedAll}
+use Rattle.division.specs.declared.Answer.the-variants.{Divided}
+use Rattle.division.proofs.Outcomes.{items-setOf-bundle}
+use Rattle.division.proofs.rounds.SameRounds.{placedInstance, rounds-standard}
+use Rattle.division.proofs.rounds.AllRounds.{nothing, getD-setOf, allotted-bundles, allotted-cutters-all}
+
+-- what holds of [] and of each member holds in each place
+getD-holds : (P : List ℕ → Type 0) → P [] → (bundles : List (List ℕ)) → ((b : List ℕ) → Mem b bundles → P b) → (i : ℕ) → P (getD bundles i [])
+getD-holds P none [] each i = none
+getD-holds P none (b ∷ bundles) each zero = each b (here refl)
+getD-holds P none (b ∷ bundles) each (suc i) = getD-holds P none bundles (λ c mc. each c (there mc)) i
+
+-- the set of 1 .. k, where k is small
+module _ (k most : ℕ) (few : k ≤ most) (small : most ≤ mostItems) where
+  -- the code cuts the count to the items of a sheet
+  pub upTo-is : setOf (range 1 (min k mostItems)) ≡ setOf (range 1 k)
+  upTo-is = let same : min k mostItems ≡ k = omega arith in ap (λ i. setOf (range 1 i)) same
+
+  pub upTo-below : setOf (range 1 k) < 2 ^ most
+  upTo-below = setOf-below most (range-sublist 1 k most few)
+
+  pub upTo-items : itemsOf (setOf (range 1 k)) ≡ range 1 k
+  upTo-items = items-setOf (range 1 k) (range-sublist 1 k setBits (omega arith))
+
+module _ (n m : ℕ) (table : List (List ℕ)) (counts : CountsWithin n m) where
+  -- all agents, as a set
+  abbrev pub allAgents : ℕ
+  allAgents = setOf (range 1 n)
+
+  -- all items
+  abbrev pub allItems : ℕ
+  allItems = setOf (range 1 m)
+
+  pub agentsIn-all : agentsIn allAgents ≡ range 1 n
+  agentsIn-all = agentsIn-items allAgents (upTo-below n mostAgents (counts .few) (omega arith)) ∙ upTo-items n mostAgents (counts .few) (omega arith)
+
+  pub itemsOf-all : itemsOf allItems ≡ range 1 m
+  itemsOf-all = upTo-items m mostItems (counts .few-items) (omega arith)
+
+  -- the rounds of all agents and all items may start
+  pub ready-all : (shares : List ℕ) → SmallAmounts shares → Ready (termsFor n) shares allAgents allItems nothing
+  unfolding termsFor largestOdd
+  ready-all shares small =
+      record {
+        small-terms = record { small-top = omega (arith, counts .few); small-bottom = omega (arith, counts .few) };
+        small-shares = small;
+        cuttable =
+            record {
+              small-left = upTo-below n mostAgents (counts .few) (omega arith);
+              some-left = omega (arith, ap length agentsIn-all, length-range 1 n, counts .some);
+              small-set = upTo-below m mostItems (counts .few-items) (omega arith);
+            };
+        places = omega (arith, ap length agentsIn-all, length-range 1 n, counts .few);
+      }
+
+  -- the first agent's cut is the partition of the first round
+  pub first-cut : (other : Cut) → getD (sharesOutcome (sharing n m table) .cuts) 0 other .partition ≡ placed (cutByLowest table (agentsIn allAgents) (itemsOf allItems))
+  unfolding profile
+  first-cut other = rw (cuts-within n m table counts, agentsIn-all, itemsOf-all) (first n (counts .some))
+    where
+      first : (k : ℕ) → 1 ≤ k → getD (padded mostAgents blankCut (map cutOf (map (maximinPartition k) (profile k m table)))) 0 other .partition ≡ placed (cutByLowest table (range 1 k) (range 1 m))
+      first zero some = absurd (omega arith)
+      first (suc k) some = ap (λ i. placed (maximinPartition i (allValues m (valuation table 1)))) (sym (length-range 1 (suc k)))
+
+  -- the bundles of the division
+  abbrev bundles : List (List ℕ)
+  bundles = allocation n m (standardInstance n m table)
+
+  -- the same as sets, in their places
+  abbrev pub placedSets : List ℕ
+  placedSets = padded mostAgents 0 (map setOf bundles)
+
+  -- the cutters in turn, in their places
+  abbrev pub placedCutters : List ℕ
+  placedCutters = padded mostAgents 0 (map (λ r. r .cutter) (allRounds n m (standardInstance n m table)))
+
+  bundle-sublist : (i : ℕ) → Sublist (getD bundles i []) (range 1 m)
+  bundle-sublist = getD-holds (λ b. Sublist b (range 1 m)) (nil-sublist (range 1 m)) bundles (allocation-sublist n m (termsFor n) table)
+
+  items-at : (i : ℕ) → itemsOf (getD placedSets i 0) ≡ getD bundles i []
+  items-at i = ap itemsOf (getD-setOf bundles (mostAgents - length (map setOf bundles)) i) ∙ items-setOf-bundle m (counts .few-items) (bundle-sublist i)
+
+  -- what the code's rounds hand out, from nothing
+  pub allotted-accepted : let a = allottedAll (placedInstance n m table counts) (agentsIn allAgents) (itemsOf allItems) nothing in
+      (a .bundles ≡ placedSets) × (a .cutters ≡ placedCutters)
+  allotted-accepted =
+      let s = sound n m (termsFor n) table (termsFor-allowed n) in
+      rw (agentsIn-all, itemsOf-all, length-range 1 n, rounds-standard n m table counts) (allotted-bundles s (counts .few), allotted-cutters-all s (counts .few))
+
+  -- the grade of what they hand out
+  grade-accepted : gradeIn n m table (sharesOutcome (sharing n m table) .shares) placedSets ≡ grade n (profile n m table) (map (maximinShare n) (profile n m table)) bundles
+  unfolding itemsOf
+  grade-accepted =
+      gradeIn-within n m table (sharesOutcome (sharing n m table) .shares) placedSets (record { some = counts .some; few = counts .few; few-items = counts .few-items })
+      ∙ grade-cong n (profile n m table) (sharesOutcome (sharing n m table) .shares) (map (maximinShare n) (profile n m table)) (map itemsOf placedSets) bundles
+      (λ i mi. nth-share n m table counts mi ∙ sym (nth-shares n m table mi))
+      (λ i mi. List·getD-map itemsOf placedSets (i - 1) 0 ∙ items-at (i - 1))
+
+  -- the code's answer, from what the rounds hand out
+  pub outcome-accepted : (g : ℕ) (sets cutters : List ℕ) (own : SharesOutcome)
+      → g ≡ gradeIn n m table (own .shares) sets → sets ≡ placedSets → cutters ≡ placedCutters → own ≡ sharesOutcome (sharing n m table)
+      → record { answer = Divided g; bundles = sets; shares = own .shares; cuts = own .cuts; cutters = cutters } ≡ outcome (accepted (divisionByRounds n m table))
+  unfolding divisionOf
+  outcome-accepted g sets cutters own graded same-sets same-cutters same-own =
+      let e : g ≡ grade n (profile n m table) (map (maximinShare n) (profile n m table)) bundles =
+      graded ∙ ap₂ (λ (o : SharesOutcome) l. gradeIn n m table (o .shares) l) same-own same-sets ∙ grade-accepted in
+      rw (e, same-sets, same-cutters, same-own, shares-within n m table counts, cuts-within n m table counts)

@@ -1,0 +1,81 @@
+-- `division::suiting::suits_table` meets its contract. The loop's invariant: the first i rows are filled in. Assumes nothing.
+use mathlib.Core.Path.{refl, sym, ap, _∙_}
+use mathlib.Core.Bool.{Bool}
+use mathlib.Core.List.{List, []}
+use Prim.Native.Nat.{ℕ, _-_}
+use native.Mathlib.Nat.{add-sub-cancel}
+use native.Mathlib.Omega.{arith}
+use lib.ListN.{getD}
+use Rattle.lists.specs.Lists.{nth}
+use Rattle.sheet.specs.Limits.{mostAgents}
+use Rattle.sheet.specs.Tables.{valuation}
+use Rattle.division.specs.internal.Suiting.{suitsRow, suitsTable}
+use Rattle.lists.proofs.places.Filling.{Filled, fill-next, fill-all}
+use Rattle.division.proofs.suiting.suits_table.Statement.{statement}
+use Rattle.division.proofs.suiting.suits_table.Tie as tie
+
+abbrev Inv-loop : tie.InvT-loop
+Inv-loop terms sets table shares suits₀ i₀ suits i = Filled (λ agent. suitsRow (valuation table agent) (nth 0 shares agent) terms sets) mostAgents suits i
+
+abbrev μ-loop : tie.MeasureT-loop
+μ-loop terms sets table shares suits₀ i₀ suits i = mostAgents - i
+
+loop-holds : tie.Need-loop-holds Inv-loop μ-loop
+loop-holds c = record { within = omega arith; places = refl; filled = refl }
+
+mul-valuation : tie.Need-mul-valuation Inv-loop μ-loop
+mul-valuation c = omega arith
+
+array-copy-out-valuation : tie.Need-array-copy-out-valuation Inv-loop μ-loop
+array-copy-out-valuation c = omega arith
+
+mul-suits-row : tie.Need-mul-suits-row Inv-loop μ-loop
+mul-suits-row c = omega arith
+
+array-read-suits-row : tie.Need-array-read-suits-row Inv-loop μ-loop
+array-read-suits-row c = omega arith
+
+suits-row-requires : tie.Need-suits-row-requires Inv-loop μ-loop
+suits-row-requires c κs = let s = c .before .before .before in (s .pre .0, s .pre .1 (c .before .before .loop .i))
+
+mul-suits : tie.Need-mul-suits Inv-loop μ-loop
+mul-suits c = omega arith
+
+array-set-from-suits : tie.Need-array-set-from-suits Inv-loop μ-loop
+array-set-from-suits c = omega arith
+
+add-i : tie.Need-add-i Inv-loop μ-loop
+add-i c = omega arith
+
+loop-less : tie.Need-loop-less Inv-loop μ-loop
+loop-less c = omega arith
+
+loop-again : tie.Need-loop-again Inv-loop μ-loop
+loop-again c =
+    let l = c .before .before .before .loop in
+    let a = c .before .before .before .before .args in
+    let row : ℕ → List Bool = λ k. suitsRow (getD (a .t1) k []) (getD (a .t2) k 0) (a .terms) (a .sets) in
+    fill-next _ mostAgents (l .suits) (l .i) (l .inv) (c .suits-row .result) (c .suits-row .ensures ∙ ap row (sym (add-sub-cancel (l .i) 1))) (omega arith)
+
+returns : tie.Need-returns Inv-loop μ-loop
+unfolding suitsTable
+returns c = let l = c .before .loop in fill-all _ mostAgents (l .suits) (l .i) (l .inv) (omega (arith, l .inv .within))
+
+pub suits-table-spec : {M : Type 1} → statement M
+suits-table-spec =
+    tie.close
+    (tie.spec
+    Inv-loop
+    μ-loop
+    loop-holds
+    mul-valuation
+    array-copy-out-valuation
+    mul-suits-row
+    array-read-suits-row
+    suits-row-requires
+    mul-suits
+    array-set-from-suits
+    add-i
+    loop-less
+    loop-again
+    returns)
