@@ -1,12 +1,6 @@
--- Laws of the definitions, which several functions' proofs cite, and the samples by computation.
-pub mod SameLaws
-pub mod LexemeLaws
-pub mod TokenLaws
-pub mod NumberLaws
-pub mod FormLaws
-pub mod RowLaws
-pub mod LineLaws
-pub mod ShapeLaws
-pub mod TableLaws
-pub mod AnswerLaws
+-- Laws of the definitions: what is kept of marks and lines while they are read, how many are read, the table of an outcome, and the
+-- samples by computation.
+pub mod kept
+pub mod Shape
+pub mod OutcomeTable
 pub mod Samples

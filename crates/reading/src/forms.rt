@@ -1,86 +1,17 @@
-// Forms of tokens, and numbers between them.
-ghost use Prim.Native.Nat.{_≤_};
-ghost use mathlib.Core.Path.{_≡_};
-ghost use lib.ListN.{length};
-ghost use Rattle.reading.specs.Tokens.{tokens};
-ghost use Rattle.reading.specs.Grammar.{same, number, numberAfter};
-ghost use Rattle.reading.specs.Grammar;
-ghost use Rattle.reading.specs.internal.Places.{tokensAt, bytesOf};
-ghost use Rattle.reading.specs.internal.Results.{Follows, ReadsNumber};
-use crate::numbers;
-use crate::tokens::Cursor;
-use crate::tokens::Token;
-use crate::tokens::next_token;
+// The forms of a sheet's lines, as specs/SheetForms.antt has them: what stands before, between and after the numbers.
 
-// The place after the tokens of a form.
-pub enum Followed {
-    At(Cursor),
-    Missed,
-}
+// (sheet (yards 2) (pieces 3))
+pub(crate) const BEFORE_AGENTS: [u8; 13] = *b"(sheet (yards";
 
-// A number, and the place after it.
-pub enum Number {
-    Value(u64, Cursor),
-    Missed,
-}
+pub(crate) const BEFORE_ITEMS: [u8; 9] = *b") (pieces";
 
-// Whether a token of the text is that of the form.
-fn same_token(s: &[u8], t: Token, form: &[u8], f: Token) -> bool
-    requires { ⌜ (t .from ≤ t .to) × (t .to ≤ length (now s)) ⌝ }
-    requires { ⌜ (f .from ≤ f .to) × (f .to ≤ length (now form)) ⌝ }
-    ensures { λ r. ⌜ r ≡ same (bytesOf (now (form .entry)) f) (bytesOf (now (s .entry)) t) ⌝ }
-{
-    let from = t.from;
-    let to = t.to;
-    let form_from = f.from;
-    let form_to = f.to;
-    check::same(&form[form_from..form_to], &s[from..to])
-}
+// (yard 1 (marks 5 3 4))
+pub(crate) const BEFORE_TURN: [u8; 5] = *b"(yard";
 
-// The place after the tokens of the form's text, where they are the next.
-pub(crate) fn follow(s: &[u8], c: Cursor, form: &[u8]) -> Followed
-    requires { ⌜ c .at ≤ length (now s) ⌝ }
-    ensures { λ r. ⌜ Follows (now (s .entry)) r (Grammar.follow (tokens (now (form .entry))) (tokensAt (now (s .entry)) c)) ⌝ }
-{
-    let mut here = c;
-    let mut there = Cursor::start();
-    while there.at < form.len() {
-        let f = next_token(form, there);
-        let t = next_token(s, here);
-        if !same_token(s, t, form, f) {
-            return Followed::Missed;
-        }
-        there = f.next;
-        here = t.next;
-    }
-    Followed::At(here)
-}
+pub(crate) const BEFORE_MARKS: [u8; 6] = *b"(marks";
 
-// A number of at most so many digits.
-pub(crate) fn read_number(s: &[u8], c: Cursor, most: usize) -> Number
-    requires { ⌜ c .at ≤ length (now s) ⌝ }
-    requires { ⌜ most ≤ 19 ⌝ }
-    ensures { λ r. ⌜ ReadsNumber (now (s .entry)) r (number most (tokensAt (now (s .entry)) c)) ⌝ }
-{
-    let t = next_token(s, c);
-    let from = t.from;
-    let to = t.to;
-    let w = &s[from..to];
-    if !numbers::is_number(w, most) {
-        return Number::Missed;
-    }
-    let next = t.next;
-    Number::Value(numbers::decimal(w), next)
-}
+// The end of these lines.
+pub(crate) const LINE_END: [u8; 3] = *b"))\n";
 
-// A form's text, and then a number of at most so many digits.
-pub(crate) fn number_after(s: &[u8], c: Cursor, form: &[u8], most: usize) -> Number
-    requires { ⌜ c .at ≤ length (now s) ⌝ }
-    requires { ⌜ most ≤ 19 ⌝ }
-    ensures { λ r. ⌜ ReadsNumber (now (s .entry)) r (numberAfter (tokens (now (form .entry))) most (tokensAt (now (s .entry)) c)) ⌝ }
-{
-    let Followed::At(next) = follow(s, c, form) else {
-        return Number::Missed;
-    };
-    read_number(s, next, most)
-}
+// The line after the yard lines.
+pub(crate) const LAST_LINE: [u8; 6] = *b"(end)\n";

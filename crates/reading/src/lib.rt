@@ -1,23 +1,23 @@
-// Reading a sheet of marks from bytes: the refusal's number, or the counts and the table of marks.
-mod forms;
-mod lines;
-mod numbers;
-mod tokens;
-
-ghost use Prim.Native.Nat.{_≤_};
+// Reading a sheet of marks from bytes: the refusal's number, or the counts, and the table of marks.
 ghost use mathlib.Core.Path.{_≡_};
-ghost use lib.ListN.{length};
-ghost use Rattle.reading.specs.Tokens.{tokens};
-ghost use Rattle.reading.specs.Grammar.{head, yardLines};
-ghost use Rattle.sheet.specs.Limits.{within, mostAgents, mostItems};
-ghost use Rattle.reading.specs.Reading.{reading, ofYardLines, ofHead};
-ghost use Rattle.reading.specs.Answers.{answerOf, tableOf};
-ghost use Rattle.reading.specs.internal.Places.{tokensAt};
+ghost use Rattle.sheet.specs.Answers;
+ghost use Rattle.reading.specs.Reading.{reading};
+ghost use Rattle.reading.specs.Outcome.{outcome, tableIn};
+ghost use Rattle.reading.specs.internal.Kept.{blankRows};
+use lexing::tokens::Cursor;
 use lines::Head;
-use lines::Lines;
+use sheet::Row;
 use sheet::Sheet;
 use sheet::Table;
-use tokens::Cursor;
+use sheet::is_within;
+
+mod forms;
+mod lines;
+
+// One agent's valuation (row of marks).
+pub struct Valuation {
+    pub marks: Row,
+}
 
 // What reading answers: the number of the reason to refuse the text, or the counts.
 pub enum Answer {
@@ -25,71 +25,82 @@ pub enum Answer {
     Accepted(Sheet),
 }
 
-// The first reason to refuse a text, or the counts of the sheet that it holds.
-pub fn read(text: &[u8]) -> Answer
-    ensures { λ r. ⌜ r ≡ answerOf (reading (now (text .entry))) ⌝ }
+// The answer, and the rows of the table of marks, which are blank where the text is refused.
+pub struct Outcome {
+    pub answer: Answer,
+    pub rows: [Valuation; Sheet::AGENTS],
+}
+
+// The table of these rows: a struct cannot hold it as an array of arrays.
+pub fn table(rows: [Valuation; Sheet::AGENTS]) -> Table
+    ensures { λ r. ⌜ r ≡ tableIn rows ⌝ }
+{
+    let mut table = Sheet::blank();
+    let mut k = 0;
+    while k < Sheet::AGENTS {
+        let row = rows[k];
+        let marks = row.marks;
+        table[k] = marks;
+        k += 1;
+    }
+    table
+}
+
+// The rows of the blank table.
+pub(crate) fn blank_rows() -> [Valuation; Sheet::AGENTS]
+    ensures { λ r. ⌜ r ≡ blankRows ⌝ }
+{
+    let blank = Valuation {
+        marks: [0; Sheet::ITEMS],
+    };
+    [blank; Sheet::AGENTS]
+}
+
+// The outcome of a refusal.
+fn refused(number: u8) -> Outcome
+    ensures { λ r. ⌜ r ≡ outcome (Answers.refused number) ⌝ }
+{
+    Outcome {
+        answer: Answer::Refused(number),
+        rows: blank_rows(),
+    }
+}
+
+// The first reason to refuse a text, or the counts and the rows of the sheet that it holds.
+pub fn read(text: &[u8]) -> Outcome
+    ensures { λ r. ⌜ r ≡ outcome (reading (now (text .entry))) ⌝ }
 {
     if Sheet::LONGEST_TEXT < text.len() {
-        return Answer::Refused(1);
+        return refused(1);
     }
     if text.len() == 0 {
-        return Answer::Refused(2);
+        return refused(2);
     }
-    read_sheet(text)
-}
-
-// The table of marks of an accepted text, and the blank table otherwise.
-pub fn table(text: &[u8]) -> Table
-    ensures { λ r. ⌜ r ≡ tableOf (reading (now (text .entry))) ⌝ }
-{
-    let Answer::Accepted(_) = read(text) else {
-        return Sheet::blank();
+    let Head::Counts(agents, items, first) = lines::read_head(text, Cursor::start()) else {
+        return refused(3);
     };
-    let Head::Counts(yards, pieces, next) = lines::read_head(text, Cursor::start()) else {
-        return Sheet::blank();
-    };
-    lines::rows(text, next, yards, pieces)
-}
-
-// Whether n lies in 1 to `most`.
-fn is_within(n: usize, most: usize) -> bool
-    ensures { λ r. ⌜ r ≡ within most n ⌝ }
-{
-    1 <= n && n <= most
-}
-
-// The head of a text, its yard lines and its end.
-fn read_sheet(text: &[u8]) -> Answer
-    ensures { λ r. ⌜ r ≡ answerOf (ofHead (head (tokens (now (text .entry))))) ⌝ }
-{
-    let Head::Counts(yards, pieces, next) = lines::read_head(text, Cursor::start()) else {
-        return Answer::Refused(3);
-    };
-    if !is_within(yards, Sheet::YARDS) {
-        return Answer::Refused(4);
+    if !is_within(agents, Sheet::AGENTS) {
+        return refused(4);
     }
-    if !is_within(pieces, Sheet::PIECES) {
-        return Answer::Refused(5);
+    if !is_within(items, Sheet::ITEMS) {
+        return refused(5);
     }
-    read_lines(text, next, yards, pieces)
-}
-
-// The yard lines and the end of a text whose counts are within the limits.
-fn read_lines(text: &[u8], c: Cursor, yards: usize, pieces: usize) -> Answer
-    requires { ⌜ c .at ≤ length (now text) ⌝ }
-    requires { ⌜ yards ≤ mostAgents ⌝ }
-    requires { ⌜ pieces ≤ mostItems ⌝ }
-    ensures { λ r. ⌜ r ≡ answerOf (ofYardLines yards pieces (yardLines 1 yards pieces (tokensAt (now (text .entry)) c))) ⌝ }
-{
-    let Lines::Read(fit, next) = lines::yard_lines(text, c, yards, pieces) else {
-        return Answer::Refused(6);
-    };
-    let ended = lines::end_line(text, next);
+    let lines = lines::yard_lines(text, first, agents, items);
+    if !lines.read {
+        return refused(6);
+    }
+    let last = lines.next;
+    let ended = lines::end_line(text, last);
+    let allowed = lines.allowed;
     if !ended {
-        return Answer::Refused(7);
+        return refused(7);
     }
-    if !fit {
-        return Answer::Refused(8);
+    if !allowed {
+        return refused(8);
     }
-    Answer::Accepted(Sheet { yards, pieces })
+    let rows = lines.rows;
+    Outcome {
+        answer: Answer::Accepted(Sheet { agents, items }),
+        rows,
+    }
 }

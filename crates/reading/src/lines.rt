@@ -1,30 +1,32 @@
 // The lines of a sheet.
 ghost use Prim.Native.Nat.{_≤_};
 ghost use mathlib.Core.Path.{_≡_};
-ghost use mathlib.Core.Bool.{true, false, _&&_};
-ghost use lib.ListN.{length};
-ghost use Rattle.reading.specs.Grammar.{head, yardTurn, yardLine, yardLines, endLine};
-ghost use Rattle.reading.specs.Grammar;
-ghost use Rattle.sheet.specs.Limits.{mostAgents, mostItems, blankTable};
-ghost use Rattle.reading.specs.internal.Places.{tokensAt};
-ghost use Rattle.reading.specs.internal.Kept.{kept, fitsAfter, storedAfter};
-ghost use Rattle.reading.specs.internal.Results.{Follows, ReadsHead, ReadsMarks, ReadsLines};
-use crate::forms::Followed;
-use crate::forms::Number;
-use crate::forms::follow;
-use crate::forms::number_after;
-use crate::forms::read_number;
-use crate::tokens::Cursor;
+ghost use mathlib.Core.Bool.{false, _&&_};
+ghost use Rattle.sheet.specs.Limits.{mostAgents, mostItems};
+ghost use Rattle.lexing.specs.Places.{tokensAt};
+ghost use Rattle.lexing.specs.Results.{Follows};
+ghost use Rattle.reading.specs.Grammar.{head, marks, yardTurn, yardLine, yardLines, endLine};
+ghost use Rattle.reading.specs.internal.Kept.{keptMarks, keptLines};
+ghost use Rattle.reading.specs.internal.Results.{ReadsHead, ReadsLine, ReadsLines};
+use crate::Valuation;
+use crate::blank_rows;
+use crate::forms::BEFORE_AGENTS;
+use crate::forms::BEFORE_ITEMS;
+use crate::forms::BEFORE_MARKS;
+use crate::forms::BEFORE_TURN;
+use crate::forms::LAST_LINE;
+use crate::forms::LINE_END;
+use lexing::forms::Followed;
+use lexing::forms::Number;
+use lexing::forms::follow;
+use lexing::forms::number_after;
+use lexing::forms::read_number;
+use lexing::tokens::Cursor;
+use lexing::tokens::ended;
 use sheet::Row;
 use sheet::Sheet;
-use sheet::Table;
 
-// The most digits of a count, and of a mark.
-const COUNT_DIGITS: usize = 3;
-
-const MARK_DIGITS: usize = 5;
-
-// How many marks there are that fit.
+// How many marks there are that are allowed.
 const MARK_VALUES: u64 = Sheet::GREATEST_MARK + 1;
 
 // The counts of yards and pieces, and the place after the first line.
@@ -33,35 +35,36 @@ pub enum Head {
     Missed,
 }
 
-// The marks of one line, those that do not fit reduced, whether all of them fit, and the place after them.
-pub struct Marks {
+// The marks of one line, those that are not allowed reduced, whether all of them are allowed, and the place after them.
+pub struct Line {
     pub read: bool,
-    pub fit: bool,
+    pub allowed: bool,
     pub row: Row,
     pub next: Cursor,
 }
 
-// Whether all marks of the yard lines fit, and the place after these lines.
-pub enum Lines {
-    Read(bool, Cursor),
-    Missed,
+// The marks of the yard lines, whether all of them are allowed, and the place after these lines.
+pub struct Lines {
+    pub read: bool,
+    pub allowed: bool,
+    pub rows: [Valuation; Sheet::AGENTS],
+    pub next: Cursor,
 }
 
 // (sheet (yards 2) (pieces 3))
 pub(crate) fn read_head(s: &[u8], c: Cursor) -> Head
-    requires { ⌜ c .at ≤ length (now s) ⌝ }
     ensures { λ r. ⌜ ReadsHead (now (s .entry)) r (head (tokensAt (now (s .entry)) c)) ⌝ }
 {
-    let Number::Value(yards, c1) = number_after(s, c, b"(sheet (yards", COUNT_DIGITS) else {
+    let Number::Value(agents, c1) = number_after(s, c, &BEFORE_AGENTS, Sheet::COUNT_DIGITS) else {
         return Head::Missed;
     };
-    let Number::Value(pieces, c2) = number_after(s, c1, b") (pieces", COUNT_DIGITS) else {
+    let Number::Value(items, c2) = number_after(s, c1, &BEFORE_ITEMS, Sheet::COUNT_DIGITS) else {
         return Head::Missed;
     };
-    let Followed::At(c3) = follow(s, c2, b"))\n") else {
+    let Followed::At(c3) = follow(s, c2, &LINE_END) else {
         return Head::Missed;
     };
-    Head::Counts(yards as usize, pieces as usize, c3)
+    Head::Counts(agents as usize, items as usize, c3)
 }
 
 // Whether both hold.
@@ -72,39 +75,38 @@ fn both(a: bool, b: bool) -> bool
 }
 
 // A line that is not as it should be.
-fn unread(c: Cursor) -> Marks
+fn unread(c: Cursor) -> Line
     ensures { λ r. ⌜ r .read ≡ false ⌝ }
 {
-    Marks {
+    Line {
         read: false,
-        fit: false,
-        row: [0; Sheet::PIECES],
+        allowed: false,
+        row: [0; Sheet::ITEMS],
         next: c,
     }
 }
 
 // As many marks as there are pieces.
-fn read_marks(s: &[u8], c: Cursor, pieces: usize) -> Marks
-    requires { ⌜ c .at ≤ length (now s) ⌝ }
-    requires { ⌜ pieces ≤ mostItems ⌝ }
-    ensures { λ r. ⌜ ReadsMarks (now (s .entry)) r (kept (Grammar.marks pieces (tokensAt (now (s .entry)) c))) ⌝ }
+fn read_marks(s: &[u8], c: Cursor, items: usize) -> Line
+    requires { ⌜ items ≤ mostItems ⌝ }
+    ensures { λ r. ⌜ ReadsLine (now (s .entry)) r (keptMarks (marks items (tokensAt (now (s .entry)) c))) ⌝ }
 {
-    let mut row = [0u16; Sheet::PIECES];
-    let mut fit = true;
+    let mut row = [0u16; Sheet::ITEMS];
+    let mut allowed = true;
     let mut here = c;
     let mut k = 0;
-    while k < pieces {
-        let Number::Value(m, next) = read_number(s, here, MARK_DIGITS) else {
+    while k < items {
+        let Number::Value(m, next) = read_number(s, here, Sheet::MARK_DIGITS) else {
             return unread(here);
         };
         row[k] = (m % MARK_VALUES) as u16;
-        fit = both(fit, m <= Sheet::GREATEST_MARK);
+        allowed = both(allowed, m <= Sheet::GREATEST_MARK);
         here = next;
         k += 1;
     }
-    Marks {
+    Line {
         read: true,
-        fit,
+        allowed,
         row,
         next: here,
     }
@@ -112,34 +114,32 @@ fn read_marks(s: &[u8], c: Cursor, pieces: usize) -> Marks
 
 // The place after `(yard`, the number `turn` and `(marks`.
 fn yard_in_turn(s: &[u8], c: Cursor, turn: usize) -> Followed
-    requires { ⌜ c .at ≤ length (now s) ⌝ }
     ensures { λ r. ⌜ Follows (now (s .entry)) r (yardTurn turn (tokensAt (now (s .entry)) c)) ⌝ }
 {
-    let Number::Value(k, next) = number_after(s, c, b"(yard", COUNT_DIGITS) else {
+    let Number::Value(k, next) = number_after(s, c, &BEFORE_TURN, Sheet::COUNT_DIGITS) else {
         return Followed::Missed;
     };
     if k as usize == turn {
-        follow(s, next, b"(marks")
+        follow(s, next, &BEFORE_MARKS)
     } else {
         Followed::Missed
     }
 }
 
 // (yard 1 (marks 5 3 4))
-fn yard_line(s: &[u8], c: Cursor, turn: usize, pieces: usize) -> Marks
-    requires { ⌜ c .at ≤ length (now s) ⌝ }
-    requires { ⌜ pieces ≤ mostItems ⌝ }
-    ensures { λ r. ⌜ ReadsMarks (now (s .entry)) r (kept (yardLine turn pieces (tokensAt (now (s .entry)) c))) ⌝ }
+fn yard_line(s: &[u8], c: Cursor, turn: usize, items: usize) -> Line
+    requires { ⌜ items ≤ mostItems ⌝ }
+    ensures { λ r. ⌜ ReadsLine (now (s .entry)) r (keptMarks (yardLine items turn (tokensAt (now (s .entry)) c))) ⌝ }
 {
     let Followed::At(c1) = yard_in_turn(s, c, turn) else {
         return unread(c);
     };
-    let marks = read_marks(s, c1, pieces);
+    let marks = read_marks(s, c1, items);
     if !marks.read {
         return marks;
     }
     let c2 = marks.next;
-    let Followed::At(c3) = follow(s, c2, b"))\n") else {
+    let Followed::At(c3) = follow(s, c2, &LINE_END) else {
         return unread(c);
     };
     let mut done = marks;
@@ -148,57 +148,45 @@ fn yard_line(s: &[u8], c: Cursor, turn: usize, pieces: usize) -> Marks
 }
 
 // The lines of the yards, from yard 1 upward.
-pub(crate) fn yard_lines(s: &[u8], c: Cursor, yards: usize, pieces: usize) -> Lines
-    requires { ⌜ c .at ≤ length (now s) ⌝ }
-    requires { ⌜ yards ≤ mostAgents ⌝ }
-    requires { ⌜ pieces ≤ mostItems ⌝ }
-    ensures { λ r. ⌜ ReadsLines (now (s .entry)) r (fitsAfter true (yardLines 1 yards pieces (tokensAt (now (s .entry)) c))) ⌝ }
+pub(crate) fn yard_lines(s: &[u8], c: Cursor, agents: usize, items: usize) -> Lines
+    requires { ⌜ agents ≤ mostAgents ⌝ }
+    requires { ⌜ items ≤ mostItems ⌝ }
+    ensures { λ r. ⌜ ReadsLines (now (s .entry)) r (keptLines (yardLines agents items (tokensAt (now (s .entry)) c))) ⌝ }
 {
+    let mut rows = blank_rows();
+    let mut allowed = true;
     let mut here = c;
-    let mut fit = true;
     let mut k = 0;
-    while k < yards {
-        let line = yard_line(s, here, k + 1, pieces);
-        if !line.read {
-            return Lines::Missed;
-        }
-        fit = both(fit, line.fit);
+    while k < agents {
+        let line = yard_line(s, here, k + 1, items);
         here = line.next;
-        k += 1;
-    }
-    Lines::Read(fit, here)
-}
-
-// The table of the yard lines, which is blank where one of them is missing.
-pub(crate) fn rows(s: &[u8], c: Cursor, yards: usize, pieces: usize) -> Table
-    requires { ⌜ c .at ≤ length (now s) ⌝ }
-    requires { ⌜ yards ≤ mostAgents ⌝ }
-    requires { ⌜ pieces ≤ mostItems ⌝ }
-    ensures { λ r. ⌜ r ≡ storedAfter 0 blankTable (yardLines 1 yards pieces (tokensAt (now (s .entry)) c)) ⌝ }
-{
-    let mut table = Sheet::blank();
-    let mut here = c;
-    let mut k = 0;
-    while k < yards {
-        let line = yard_line(s, here, k + 1, pieces);
         if !line.read {
-            return Sheet::blank();
+            return Lines {
+                read: false,
+                allowed,
+                rows,
+                next: here,
+            };
         }
         let row = line.row;
-        table[k] = row;
-        here = line.next;
+        rows[k] = Valuation { marks: row };
+        allowed = both(allowed, line.allowed);
         k += 1;
     }
-    table
+    Lines {
+        read: true,
+        allowed,
+        rows,
+        next: here,
+    }
 }
 
 // Whether the line `(end)` and the end of the text stand here.
 pub(crate) fn end_line(s: &[u8], c: Cursor) -> bool
-    requires { ⌜ c .at ≤ length (now s) ⌝ }
     ensures { λ r. ⌜ r ≡ endLine (tokensAt (now (s .entry)) c) ⌝ }
 {
-    let Followed::At(c1) = follow(s, c, b"(end)\n") else {
+    let Followed::At(c1) = follow(s, c, &LAST_LINE) else {
         return false;
     };
-    c1.at == s.len()
+    ended(s, c1)
 }

@@ -21,17 +21,19 @@ pub(crate) fn print_number(n: usize) {
 
 // Prints the answer to a text, and ends the line.
 pub(crate) fn print_answer(text: &[u8]) {
-    let answer = reading::read(text);
+    let outcome = reading::read(text);
+    let answer = outcome.answer;
+    let rows = outcome.rows;
     match answer {
         Answer::Refused(number) => {
             print(b"refused ");
             print_number(number as usize);
         }
         Answer::Accepted(sheet) => {
-            print_number(sheet.yards);
+            print_number(sheet.agents);
             print(b" x ");
-            print_number(sheet.pieces);
-            print_table(reading::table(text), sheet);
+            print_number(sheet.items);
+            print_table(reading::table(rows), sheet);
         }
     }
     print(b"\n");
@@ -48,19 +50,19 @@ pub(crate) fn print_joined(first: &[u8], second: &[u8], third: &[u8]) {
 
 // Prints the rows in use.
 fn print_table(table: Table, sheet: Sheet) {
-    for k in 0..Sheet::YARDS {
-        if k < sheet.yards {
+    for k in 0..Sheet::AGENTS {
+        if k < sheet.agents {
             print(b" |");
             let row = table[k];
-            print_row(row, sheet.pieces);
+            print_row(row, sheet.items);
         }
     }
 }
 
 // Prints the marks in use.
-fn print_row(row: Row, pieces: usize) {
-    for k in 0..Sheet::PIECES {
-        if k < pieces {
+fn print_row(row: Row, items: usize) {
+    for k in 0..Sheet::ITEMS {
+        if k < items {
             print(b" ");
             print_number(row[k] as usize);
         }

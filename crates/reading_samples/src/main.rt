@@ -8,8 +8,8 @@ mod text;
 
 fn main() {
     samples();
-    yards();
-    pieces();
+    agents();
+    items();
     marks();
     orders();
     heads();
@@ -39,7 +39,7 @@ fn samples() {
 }
 
 // Counts of yards before six yard lines.
-fn yards() {
+fn agents() {
     cases::values(
         b"yards ",
         b"(sheet (yards ",
@@ -51,7 +51,7 @@ fn yards() {
 }
 
 // Counts of pieces before a yard line of twelve marks.
-fn pieces() {
+fn items() {
     cases::values(
         b"pieces ",
         b"(sheet (yards 1) (pieces ",

@@ -8,9 +8,10 @@ use native.Mathlib.Omega.{arith}
 use lib.ListN.{length}
 use lib.Dec.{eqb, leb, ltb}
 use borrow.Author.Tests.{ne-eqb, leb-true, le-leb, lt-ltb, not-true, eqb-false}
+use Rattle.lists.proofs.members.Each.{all-append}
 use Rattle.text.specs.Decimal.{digit, decimal}
 use Rattle.text.proofs.Decimal.{decimal-digit, decimal-tens, by-digits, decimal-first, decimal-length}
-use Rattle.reading.specs.Grammar.{isDigit, allDigits, noLeadingZero, isNumber, digitsAfter}
+use Rattle.lexing.specs.Numbers.{isDigit, allDigits, noLeadingZero, isNumber, digitsAfter}
 
 digitsAfter-append : (n : ℕ) (v w : List ℕ) → digitsAfter n (v ++ w) ≡ digitsAfter (digitsAfter n v) w
 unfolding digitsAfter
@@ -31,12 +32,6 @@ decimal-value = by-digits (λ n. digitsAfter 0 (decimal n) ≡ n) one more
 isDigit-digit : (d : ℕ) → d < 10 → isDigit (digit d) ≡ true
 isDigit-digit d h = rw (le-leb 48 (digit d) (omega arith), le-leb (digit d) 57 (omega arith))
 
-allDigits-append : (v w : List ℕ) → allDigits v ≡ true → allDigits w ≡ true → allDigits (v ++ w) ≡ true
-allDigits-append [] w e f = f
-allDigits-append (b ∷ bs) w e f =
-    let both = and-eq-true-iff (isDigit b) (allDigits bs) .0 e in
-    rw (both .0, allDigits-append bs w (both .1) f)
-
 pub decimal-allDigits : (n : ℕ) → allDigits (decimal n) ≡ true
 decimal-allDigits = by-digits (λ n. allDigits (decimal n) ≡ true) one more
   where
@@ -44,7 +39,7 @@ decimal-allDigits = by-digits (λ n. allDigits (decimal n) ≡ true) one more
     one d h = rw (decimal-digit d h, isDigit-digit d h)
 
     more : (n d : ℕ) → 0 < n → d < 10 → allDigits (decimal n) ≡ true → allDigits (decimal (n * 10 + d)) ≡ true
-    more n d pos small e = rw (decimal-tens n d pos small) (allDigits-append (decimal n) (digit d ∷ []) e (rw (isDigit-digit d small)))
+    more n d pos small e = rw (decimal-tens n d pos small) (all-append isDigit (decimal n) (digit d ∷ []) e (rw (isDigit-digit d small)))
 
 decimal-noLeadingZero : (n : ℕ) → noLeadingZero (decimal n) ≡ true
 decimal-noLeadingZero zero = rw (decimal-digit 0 (omega arith))

@@ -8,12 +8,16 @@ use lib.Dec.{eqb}
 use borrow.Author.Tests.{eqb-true}
 use Rattle.lists.specs.Lists.{all}
 use Rattle.text.specs.Decimal.{decimal}
-use Rattle.reading.specs.Tokens.{Token}
-use Rattle.reading.specs.Grammar.{_>>=_, same, form, follow, isNumber, digitsAfter, number, numberAfter, countDigits, markDigits, head, marks, yardTurn, yardLine, yardLines, endedAfter, endLine}
-use Rattle.strict_text.proofs.SheetTokens.{isToken, headTokens, turnTokens, yardTokens, yardsTokens}
-use Rattle.reading.proofs.SameLaws.{same-true}
+use Rattle.lexing.specs.Tokens.{Token}
+use Rattle.sheet.specs.Limits.{countDigits, markDigits}
+use Rattle.lexing.specs.Forms.{_>>=_, same, form, follow, inTurn}
+use Rattle.lexing.specs.Numbers.{isNumber, digitsAfter, number, numberAfter}
+use Rattle.reading.specs.SheetForms.{beforeAgents, beforeItems, beforeTurn, beforeMarks, lineEnd, lastLine}
+use Rattle.reading.specs.Grammar.{head, marks, yardTurn, yardLine, yardLines, endedAfter, endLine}
+use Rattle.strict_text.proofs.SheetTokens.{isToken, headTokens, tokensInTurn, turnTokens, yardTokens, yardsTokens}
+use Rattle.lexing.proofs.readers.Same.{same-true}
 use Rattle.strict_text.proofs.Decimal.{decimal-of-value}
-use Rattle.strict_text.proofs.SheetTokenLaws.{sheet-form, pieces-form, line-end-form, yard-form, marks-form, end-form}
+use Rattle.strict_text.proofs.SheetTokenLaws.{sheet-form, items-form, line-end-form, yard-form, marks-form, end-form}
 
 -- what two readers, one after the other, have read
 record Bound {A B : Type 0} (o : Option A) (f : A → Option B) (b : B) : Type 0 where
@@ -65,69 +69,73 @@ numberAfter-inverse fs most ts r t e =
 pub head-inverse : (ts : List Token) (r : ℕ × ℕ × List Token) → head ts ≡ some r → ts ≡ headTokens (r .0) (r .1) ++ r .2
 unfolding head headTokens
 head-inverse ts r e =
-    let yards = bound (numberAfter (form "(sheet (yards") countDigits ts) _ r e in
-    let pieces = bound (numberAfter (form ") (pieces") countDigits (yards .first .1)) _ r (yards .then-read) in
-    let line = bound (follow (form "))\n") (pieces .first .1)) _ r (pieces .then-read) in
-    let to-yards = numberAfter-inverse (form "(sheet (yards") countDigits ts (yards .first) sheet-form (yards .first-read) in
-    let to-pieces = numberAfter-inverse (form ") (pieces") countDigits (yards .first .1) (pieces .first) pieces-form (pieces .first-read) in
-    let to-end = follow-inverse (form "))\n") (pieces .first .1) (line .first) line-end-form (line .first-read) in
-    let all-read = three-read (yards .first .0) (pieces .first .0) (line .first) r (line .then-read) in
+    let agents = bound (numberAfter (form beforeAgents) countDigits ts) _ r e in
+    let items = bound (numberAfter (form beforeItems) countDigits (agents .first .1)) _ r (agents .then-read) in
+    let line = bound (follow (form lineEnd) (items .first .1)) _ r (items .then-read) in
+    let to-agents = numberAfter-inverse (form beforeAgents) countDigits ts (agents .first) sheet-form (agents .first-read) in
+    let to-items = numberAfter-inverse (form beforeItems) countDigits (agents .first .1) (items .first) items-form (items .first-read) in
+    let to-end = follow-inverse (form lineEnd) (items .first .1) (line .first) line-end-form (line .first-read) in
+    let all-read = three-read (agents .first .0) (items .first .0) (line .first) r (line .then-read) in
     simp append-assoc (cc)
 
+-- readings one after another, each of which is inverted
+module _ {A : Type 0} (reader : ℕ → List Token → Option (A × List Token)) (tokensOf : ℕ → A → List Token) where
+  inTurn-inverse : ((turn : ℕ) (ts : List Token) (r : A × List Token) → reader turn ts ≡ some r → ts ≡ tokensOf turn (r .0) ++ r .1)
+      → (turn n : ℕ) (ts : List Token) (r : List A × List Token) → inTurn reader turn n ts ≡ some r → ts ≡ tokensInTurn tokensOf turn (r .0) ++ r .1
+  unfolding inTurn tokensInTurn
+  inTurn-inverse one turn zero ts r e = let all-read = two-read [] ts r e in rw (← all-read .0) (all-read .1)
+  inTurn-inverse one turn (suc n) ts r e =
+      let this = bound (reader turn ts) _ r e in
+      let later = bound (inTurn reader (turn + 1) n (this .first .1)) _ r (this .then-read) in
+      let to-next = one turn ts (this .first) (this .first-read) in
+      let to-end = inTurn-inverse one (turn + 1) n (this .first .1) (later .first) (later .first-read) in
+      let all-read = two-read (this .first .0 ∷ later .first .0) (later .first .1) r (later .then-read) in
+      let split : tokensInTurn tokensOf turn (r .0) ++ r .1 ≡ tokensOf turn (this .first .0) ++ (tokensInTurn tokensOf (turn + 1) (later .first .0) ++ r .1)
+      = ap (λ l. tokensInTurn tokensOf turn l ++ r .1) (sym (all-read .0)) ∙ append-assoc (tokensOf turn (this .first .0)) _ (r .1) in
+      cc
+
+decimals-in-turn : (turn : ℕ) (ns : List ℕ) → tokensInTurn (λ piece m. decimal m ∷ []) turn ns ≡ map decimal ns
+unfolding tokensInTurn
+decimals-in-turn turn [] = refl
+decimals-in-turn turn (n ∷ ns) = ap (λ l. decimal n ∷ l) (decimals-in-turn (turn + 1) ns)
+
 marks-inverse : (n : ℕ) (ts : List Token) (r : List ℕ × List Token) → marks n ts ≡ some r → ts ≡ map decimal (r .0) ++ r .1
-unfolding marks
-marks-inverse zero ts r e = let all-read = two-read [] ts r e in rw (← all-read .0) (all-read .1)
-marks-inverse (suc n) ts r e =
-    let mark = bound (number markDigits ts) _ r e in
-    let later = bound (marks n (mark .first .1)) _ r (mark .then-read) in
-    let to-mark = number-inverse markDigits ts (mark .first) (mark .first-read) in
-    let to-end = marks-inverse n (mark .first .1) (later .first) (later .first-read) in
-    let all-read = two-read (mark .first .0 ∷ later .first .0) (later .first .1) r (later .then-read) in
-    let split : map decimal (r .0) ++ r .1 ≡ decimal (mark .first .0) ∷ (map decimal (later .first .0) ++ r .1) = ap (λ l. map decimal l ++ r .1) (sym (all-read .0)) in
-    cc
+marks-inverse n ts r e =
+    inTurn-inverse (λ piece. number markDigits) (λ piece m. decimal m ∷ []) (λ piece. number-inverse markDigits) 1 n ts r e
+    ∙ ap (λ l. l ++ r .1) (decimals-in-turn 1 (r .0))
 
 yardTurn-inverse : (turn : ℕ) (ts ts′ : List Token) → yardTurn turn ts ≡ some ts′ → ts ≡ turnTokens turn ++ ts′
 unfolding yardTurn turnTokens
 yardTurn-inverse turn ts ts′ e =
-    let yard = bound (numberAfter (form "(yard") countDigits ts) _ ts′ e in
+    let yard = bound (numberAfter (form beforeTurn) countDigits ts) _ ts′ e in
     let turned = bound (cond (eqb (yard .first .0) turn) (some (yard .first .1)) none) _ ts′ (yard .then-read) in
     let test = passed (eqb (yard .first .0) turn) (yard .first .1) (turned .first) (turned .first-read) in
     let in-turn = eqb-true (yard .first .0) turn (test .0) in
-    let to-yard = numberAfter-inverse (form "(yard") countDigits ts (yard .first) yard-form (yard .first-read) in
-    let to-marks = follow-inverse (form "(marks") (turned .first) ts′ marks-form (turned .then-read) in
+    let to-yard = numberAfter-inverse (form beforeTurn) countDigits ts (yard .first) yard-form (yard .first-read) in
+    let to-marks = follow-inverse (form beforeMarks) (turned .first) ts′ marks-form (turned .then-read) in
     simp append-assoc (cc)
 
-yardLine-inverse : (turn pieces : ℕ) (ts : List Token) (r : List ℕ × List Token) → yardLine turn pieces ts ≡ some r → ts ≡ yardTokens turn (r .0) ++ r .1
+yardLine-inverse : (items turn : ℕ) (ts : List Token) (r : List ℕ × List Token) → yardLine items turn ts ≡ some r → ts ≡ yardTokens turn (r .0) ++ r .1
 unfolding yardLine yardTokens
-yardLine-inverse turn pieces ts r e =
+yardLine-inverse items turn ts r e =
     let start = bound (yardTurn turn ts) _ r e in
-    let row = bound (marks pieces (start .first)) _ r (start .then-read) in
-    let line = bound (follow (form "))\n") (row .first .1)) _ r (row .then-read) in
+    let row = bound (marks items (start .first)) _ r (start .then-read) in
+    let line = bound (follow (form lineEnd) (row .first .1)) _ r (row .then-read) in
     let to-row = yardTurn-inverse turn ts (start .first) (start .first-read) in
-    let to-end = marks-inverse pieces (start .first) (row .first) (row .first-read) in
-    let to-next = follow-inverse (form "))\n") (row .first .1) (line .first) line-end-form (line .first-read) in
+    let to-end = marks-inverse items (start .first) (row .first) (row .first-read) in
+    let to-next = follow-inverse (form lineEnd) (row .first .1) (line .first) line-end-form (line .first-read) in
     let all-read = two-read (row .first .0) (line .first) r (line .then-read) in
     simp append-assoc (cc)
 
-pub yardLines-inverse : (turn n pieces : ℕ) (ts : List Token) (r : List (List ℕ) × List Token) → yardLines turn n pieces ts ≡ some r
-    → ts ≡ yardsTokens turn (r .0) ++ r .1
-unfolding yardLines yardsTokens
-yardLines-inverse turn zero pieces ts r e = let all-read = two-read [] ts r e in rw (← all-read .0) (all-read .1)
-yardLines-inverse turn (suc n) pieces ts r e =
-    let line = bound (yardLine turn pieces ts) _ r e in
-    let later = bound (yardLines (turn + 1) n pieces (line .first .1)) _ r (line .then-read) in
-    let to-next = yardLine-inverse turn pieces ts (line .first) (line .first-read) in
-    let to-end = yardLines-inverse (turn + 1) n pieces (line .first .1) (later .first) (later .first-read) in
-    let all-read = two-read (line .first .0 ∷ later .first .0) (later .first .1) r (later .then-read) in
-    let split : yardsTokens turn (r .0) ++ r .1 ≡ yardTokens turn (line .first .0) ++ (yardsTokens (turn + 1) (later .first .0) ++ r .1)
-    = ap (λ l. yardsTokens turn l ++ r .1) (sym (all-read .0)) ∙ append-assoc (yardTokens turn (line .first .0)) _ (r .1) in
-    cc
+pub yardLines-inverse : (agents items : ℕ) (ts : List Token) (r : List (List ℕ) × List Token) → yardLines agents items ts ≡ some r
+    → ts ≡ yardsTokens 1 (r .0) ++ r .1
+yardLines-inverse agents items = inTurn-inverse (yardLine items) yardTokens (yardLine-inverse items) 1 agents
 
-pub endLine-inverse : (ts : List Token) → endLine ts ≡ true → ts ≡ form "(end)\n"
+pub endLine-inverse : (ts : List Token) → endLine ts ≡ true → ts ≡ form lastLine
 unfolding endLine
-endLine-inverse ts e = go (follow (form "(end)\n") ts) refl e
+endLine-inverse ts e = go (follow (form lastLine) ts) refl e
   where
-    go : (o : Option (List Token)) → follow (form "(end)\n") ts ≡ o → endedAfter o ≡ true → ts ≡ form "(end)\n"
+    go : (o : Option (List Token)) → follow (form lastLine) ts ≡ o → endedAfter o ≡ true → ts ≡ form lastLine
     go none f e = absurd (false≢true e)
-    go (some []) f e = follow-inverse (form "(end)\n") ts [] end-form f ∙ append-nil (form "(end)\n")
+    go (some []) f e = follow-inverse (form lastLine) ts [] end-form f ∙ append-nil (form lastLine)
     go (some (t ∷ ts′)) f e = absurd (false≢true e)

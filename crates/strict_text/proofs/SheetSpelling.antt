@@ -6,10 +6,11 @@ use Prim.Native.Nat.{ℕ, _+_}
 use Rattle.text.specs.Bytes.{bytes}
 use Rattle.text.specs.Decimal.{digit, decimal, spacedNumbers}
 use Rattle.text.proofs.Decimal.{decimal-first}
-use Rattle.reading.specs.Tokens.{Token, lineFeed, space, firstByte, isWordByte, widen, continues, prefixed, withByte, lexemes, laidOut, tokensAfter}
-use Rattle.reading.specs.Grammar.{form}
-use Rattle.strict_text.specs.StrictText.{headText, yardText, yardTexts}
-use Rattle.strict_text.proofs.SheetTokens.{written, spaced, spelt, headTokens, turnTokens, yardTokens, yardsTokens, sheetTokens}
+use Rattle.lexing.specs.Tokens.{Token, lineFeed, space, firstByte, isWordByte, widen, continues, prefixed, withByte, lexemes, laidOut, tokensAfter}
+use Rattle.lexing.specs.Forms.{form}
+use Rattle.reading.specs.SheetForms.{beforeAgents, beforeItems, beforeTurn, beforeMarks, lineEnd, lastLine}
+use Rattle.strict_text.specs.StrictText.{headText, yardText, yardTexts, sheetText}
+use Rattle.strict_text.proofs.SheetTokens.{written, spaced, spelt, headTokens, turnTokens, yardTokens, tokensInTurn, yardsTokens, sheetTokens}
 use Rattle.strict_text.proofs.Decimal.{decimal-allDigits}
 use Rattle.strict_text.proofs.Spelling.{word-byte}
 use Rattle.strict_text.proofs.SheetTokenLaws.{digits-are-word-bytes}
@@ -42,45 +43,47 @@ spelt-numbers b (n ∷ ns) ts w =
     ∙ sym (append-assoc (space ∷ decimal n) (spacedNumbers ns) (spelt (digit 0) ts))
 
 -- the spelling of the forms, at the start of a line or after a word
-spelt-sheet-form : (ts : List Token) → spelt lineFeed (form "(sheet (yards" ++ ts) ≡ bytes "(sheet (yards" ++ spelt (digit 0) ts
+spelt-sheet-form : (ts : List Token) → spelt lineFeed (form beforeAgents ++ ts) ≡ bytes beforeAgents ++ spelt (digit 0) ts
 unfolding tokensAfter laidOut lexemes withByte prefixed continues widen written spaced
-spelt-sheet-form ts = ap (λ l. bytes "(sheet (yards" ++ l) (spelt-after-word _ ts refl)
+spelt-sheet-form ts = ap (λ l. bytes beforeAgents ++ l) (spelt-after-word _ ts refl)
 
-spelt-pieces-form : (ts : List Token) → spelt (digit 0) (form ") (pieces" ++ ts) ≡ bytes ") (pieces" ++ spelt (digit 0) ts
+spelt-items-form : (ts : List Token) → spelt (digit 0) (form beforeItems ++ ts) ≡ bytes beforeItems ++ spelt (digit 0) ts
 unfolding tokensAfter laidOut lexemes withByte prefixed continues widen written spaced
-spelt-pieces-form ts = ap (λ l. bytes ") (pieces" ++ l) (spelt-after-word _ ts refl)
+spelt-items-form ts = ap (λ l. bytes beforeItems ++ l) (spelt-after-word _ ts refl)
 
-spelt-line-end-form : (ts : List Token) → spelt (digit 0) (form "))\n" ++ ts) ≡ bytes "))\n" ++ spelt lineFeed ts
+spelt-line-end-form : (ts : List Token) → spelt (digit 0) (form lineEnd ++ ts) ≡ bytes lineEnd ++ spelt lineFeed ts
 unfolding tokensAfter laidOut lexemes withByte prefixed continues widen written spaced
 spelt-line-end-form ts = refl
 
-spelt-yard-form : (ts : List Token) → spelt lineFeed (form "(yard" ++ ts) ≡ bytes "(yard" ++ spelt (digit 0) ts
+spelt-yard-form : (ts : List Token) → spelt lineFeed (form beforeTurn ++ ts) ≡ bytes beforeTurn ++ spelt (digit 0) ts
 unfolding tokensAfter laidOut lexemes withByte prefixed continues widen written spaced
-spelt-yard-form ts = ap (λ l. bytes "(yard" ++ l) (spelt-after-word _ ts refl)
+spelt-yard-form ts = ap (λ l. bytes beforeTurn ++ l) (spelt-after-word _ ts refl)
 
-spelt-marks-form : (ts : List Token) → spelt (digit 0) (form "(marks" ++ ts) ≡ bytes " (marks" ++ spelt (digit 0) ts
+spelt-marks-form : (ts : List Token) → spelt (digit 0) (form beforeMarks ++ ts) ≡ (bytes " " ++ bytes beforeMarks) ++ spelt (digit 0) ts
 unfolding tokensAfter laidOut lexemes withByte prefixed continues widen written spaced
-spelt-marks-form ts = ap (λ l. bytes " (marks" ++ l) (spelt-after-word _ ts refl)
+spelt-marks-form ts = ap (λ l. (bytes " " ++ bytes beforeMarks) ++ l) (spelt-after-word _ ts refl)
 
-spelt-end-form : spelt lineFeed (form "(end)\n") ≡ bytes "(end)\n"
+spelt-end-form : spelt lineFeed (form lastLine) ≡ bytes lastLine
 unfolding tokensAfter laidOut lexemes withByte prefixed continues widen written spaced
 spelt-end-form = refl
 
 -- the lines of a sheet
-spelt-headTokens : (yards pieces : ℕ) (ts : List Token) → spelt lineFeed (headTokens yards pieces ++ ts) ≡ headText yards pieces ++ spelt lineFeed ts
+spelt-headTokens : (agents items : ℕ) (ts : List Token) → spelt lineFeed (headTokens agents items ++ ts) ≡ headText agents items ++ spelt lineFeed ts
 unfolding headTokens headText
-spelt-headTokens yards pieces ts = simp (append-assoc, spelt-sheet-form, spelt-number, spelt-pieces-form, spelt-line-end-form)
+spelt-headTokens agents items ts =
+    simp (append-assoc, spelt-sheet-form, spelt-number, spelt-items-form, spelt-line-end-form)
+    (ap (λ l. bytes beforeAgents ++ space ∷ l) (sym (append-assoc (decimal agents) (bytes beforeItems) (space ∷ (decimal items ++ (bytes lineEnd ++ spelt lineFeed ts))))))
 
 spelt-yardTokens : (yard : ℕ) (row : List ℕ) (ts : List Token) → spelt lineFeed (yardTokens yard row ++ ts) ≡ yardText yard row ++ spelt lineFeed ts
 unfolding yardTokens turnTokens yardText
 spelt-yardTokens yard row ts = simp (append-assoc, spelt-yard-form, spelt-number, spelt-marks-form, spelt-numbers, spelt-line-end-form)
 
 spelt-yardsTokens : (yard : ℕ) (rows : List (List ℕ)) (ts : List Token) → spelt lineFeed (yardsTokens yard rows ++ ts) ≡ yardTexts yard rows ++ spelt lineFeed ts
-unfolding yardsTokens yardTexts
+unfolding tokensInTurn yardTexts
 spelt-yardsTokens yard [] ts = refl
 spelt-yardsTokens yard (row ∷ rows) ts = simp (append-assoc, spelt-yardTokens, spelt-yardsTokens (yard + 1) rows ts)
 
-pub spelt-sheetTokens : (yards pieces : ℕ) (rows : List (List ℕ))
-    → spelt lineFeed (sheetTokens yards pieces rows) ≡ headText yards pieces ++ yardTexts 1 rows ++ bytes "(end)\n"
-unfolding sheetTokens
-spelt-sheetTokens yards pieces rows = simp (append-assoc, spelt-headTokens, spelt-yardsTokens, spelt-end-form)
+pub spelt-sheetTokens : (agents items : ℕ) (rows : List (List ℕ))
+    → spelt lineFeed (sheetTokens agents items rows) ≡ sheetText agents items rows
+unfolding sheetTokens sheetText
+spelt-sheetTokens agents items rows = simp (append-assoc, spelt-headTokens, spelt-yardsTokens, spelt-end-form)

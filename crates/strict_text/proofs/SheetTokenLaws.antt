@@ -1,47 +1,44 @@
 -- The tokens of a sheet are tokens: delimiters and words. Assumes nothing.
 use mathlib.Core.Path.{_≡_, refl}
 use mathlib.Core.List.{List, [], _∷_, _++_, map}
-use mathlib.Core.Bool.{Bool, true, and-eq-true-iff, or-true}
+use mathlib.Core.Bool.{true, and-eq-true-iff, or-true}
 use Prim.Native.Nat.{ℕ, _+_}
 use native.Mathlib.Omega.{arith}
 use lib.Dec.{leb}
 use borrow.Author.Tests.{leb-true, ne-eqb}
 use Rattle.lists.specs.Lists.{all}
+use Rattle.lists.proofs.members.Each.{all-append}
 use Rattle.text.specs.Decimal.{decimal}
 use Rattle.text.proofs.Decimal.{decimal-first}
-use Rattle.reading.specs.Tokens.{lineFeed, space, opening, closing, isDelimiter, isWordByte, widen, continues, prefixed, withByte, lexemes, laidOut, tokensAfter}
-use Rattle.reading.specs.Grammar.{form, isDigit, allDigits}
-use Rattle.strict_text.proofs.SheetTokens.{isToken, headTokens, turnTokens, yardTokens, yardsTokens, sheetTokens}
+use Rattle.lexing.specs.Tokens.{lineFeed, space, opening, closing, isDelimiter, isWordByte, widen, continues, prefixed, withByte, lexemes, laidOut, tokensAfter}
+use Rattle.lexing.specs.Forms.{form}
+use Rattle.lexing.specs.Numbers.{isDigit, allDigits}
+use Rattle.reading.specs.SheetForms.{beforeAgents, beforeItems, beforeTurn, beforeMarks, lineEnd, lastLine}
+use Rattle.strict_text.proofs.SheetTokens.{isToken, headTokens, turnTokens, yardTokens, tokensInTurn, yardsTokens, sheetTokens}
 use Rattle.strict_text.proofs.Decimal.{decimal-allDigits}
 
-all-append : {A : Type 0} (p : A → Bool) (xs ys : List A) → all p xs ≡ true → all p ys ≡ true → all p (xs ++ ys) ≡ true
-all-append p [] ys e f = f
-all-append p (x ∷ xs) ys e f =
-    let both = and-eq-true-iff (p x) (all p xs) .0 e in
-    rw (both .0, all-append p xs ys (both .1) f)
-
 -- the forms of a sheet's lines are tokens
-pub sheet-form : all isToken (form "(sheet (yards") ≡ true
+pub sheet-form : all isToken (form beforeAgents) ≡ true
 unfolding isToken tokensAfter laidOut lexemes withByte prefixed continues widen
 sheet-form = refl
 
-pub pieces-form : all isToken (form ") (pieces") ≡ true
+pub items-form : all isToken (form beforeItems) ≡ true
 unfolding isToken tokensAfter laidOut lexemes withByte prefixed continues widen
-pieces-form = refl
+items-form = refl
 
-pub line-end-form : all isToken (form "))\n") ≡ true
+pub line-end-form : all isToken (form lineEnd) ≡ true
 unfolding isToken tokensAfter laidOut lexemes withByte prefixed continues widen
 line-end-form = refl
 
-pub yard-form : all isToken (form "(yard") ≡ true
+pub yard-form : all isToken (form beforeTurn) ≡ true
 unfolding isToken tokensAfter laidOut lexemes withByte prefixed continues widen
 yard-form = refl
 
-pub marks-form : all isToken (form "(marks") ≡ true
+pub marks-form : all isToken (form beforeMarks) ≡ true
 unfolding isToken tokensAfter laidOut lexemes withByte prefixed continues widen
 marks-form = refl
 
-pub end-form : all isToken (form "(end)\n") ≡ true
+pub end-form : all isToken (form lastLine) ≡ true
 unfolding isToken tokensAfter laidOut lexemes withByte prefixed continues widen
 end-form = refl
 
@@ -72,32 +69,32 @@ decimals-are-tokens : (ns : List ℕ) → all isToken (map decimal ns) ≡ true
 decimals-are-tokens [] = refl
 decimals-are-tokens (n ∷ ns) = rw (decimal-is-token n) (decimals-are-tokens ns)
 
-headTokens-are-tokens : (yards pieces : ℕ) → all isToken (headTokens yards pieces) ≡ true
+headTokens-are-tokens : (agents items : ℕ) → all isToken (headTokens agents items) ≡ true
 unfolding headTokens
-headTokens-are-tokens yards pieces =
-    all-append isToken (form "(sheet (yards" ++ decimal yards ∷ form ") (pieces") (decimal pieces ∷ form "))\n")
-    (all-append isToken (form "(sheet (yards") (decimal yards ∷ form ") (pieces") sheet-form (rw (decimal-is-token yards) pieces-form))
-    (rw (decimal-is-token pieces) line-end-form)
+headTokens-are-tokens agents items =
+    all-append isToken (form beforeAgents ++ decimal agents ∷ form beforeItems) (decimal items ∷ form lineEnd)
+    (all-append isToken (form beforeAgents) (decimal agents ∷ form beforeItems) sheet-form (rw (decimal-is-token agents) items-form))
+    (rw (decimal-is-token items) line-end-form)
 
 turnTokens-are-tokens : (yard : ℕ) → all isToken (turnTokens yard) ≡ true
 unfolding turnTokens
-turnTokens-are-tokens yard = all-append isToken (form "(yard") (decimal yard ∷ form "(marks") yard-form (rw (decimal-is-token yard) marks-form)
+turnTokens-are-tokens yard = all-append isToken (form beforeTurn) (decimal yard ∷ form beforeMarks) yard-form (rw (decimal-is-token yard) marks-form)
 
 yardTokens-are-tokens : (yard : ℕ) (row : List ℕ) → all isToken (yardTokens yard row) ≡ true
 unfolding yardTokens
 yardTokens-are-tokens yard row =
-    all-append isToken (turnTokens yard ++ map decimal row) (form "))\n")
+    all-append isToken (turnTokens yard ++ map decimal row) (form lineEnd)
     (all-append isToken (turnTokens yard) (map decimal row) (turnTokens-are-tokens yard) (decimals-are-tokens row))
     line-end-form
 
 yardsTokens-are-tokens : (yard : ℕ) (rows : List (List ℕ)) → all isToken (yardsTokens yard rows) ≡ true
-unfolding yardsTokens
+unfolding tokensInTurn
 yardsTokens-are-tokens yard [] = refl
 yardsTokens-are-tokens yard (row ∷ rows) =
     all-append isToken (yardTokens yard row) (yardsTokens (yard + 1) rows) (yardTokens-are-tokens yard row) (yardsTokens-are-tokens (yard + 1) rows)
 
-pub sheetTokens-are-tokens : (yards pieces : ℕ) (rows : List (List ℕ)) → all isToken (sheetTokens yards pieces rows) ≡ true
+pub sheetTokens-are-tokens : (agents items : ℕ) (rows : List (List ℕ)) → all isToken (sheetTokens agents items rows) ≡ true
 unfolding sheetTokens
-sheetTokens-are-tokens yards pieces rows =
-    all-append isToken (headTokens yards pieces) (yardsTokens 1 rows ++ form "(end)\n") (headTokens-are-tokens yards pieces)
-    (all-append isToken (yardsTokens 1 rows) (form "(end)\n") (yardsTokens-are-tokens 1 rows) end-form)
+sheetTokens-are-tokens agents items rows =
+    all-append isToken (headTokens agents items) (yardsTokens 1 rows ++ form lastLine) (headTokens-are-tokens agents items)
+    (all-append isToken (yardsTokens 1 rows) (form lastLine) (yardsTokens-are-tokens 1 rows) end-form)

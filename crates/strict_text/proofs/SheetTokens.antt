@@ -6,8 +6,9 @@ use Prim.Native.Nat.{ℕ, _+_}
 use lib.ListN.{replicate}
 use Rattle.lists.specs.Lists.{all}
 use Rattle.text.specs.Decimal.{decimal}
-use Rattle.reading.specs.Tokens.{Token, Lexeme, space, isDelimiter, isWordByte, firstByte, gapDue}
-use Rattle.reading.specs.Grammar.{form}
+use Rattle.lexing.specs.Tokens.{Token, Lexeme, space, isDelimiter, isWordByte, firstByte, gapDue}
+use Rattle.lexing.specs.Forms.{form}
+use Rattle.reading.specs.SheetForms.{beforeAgents, beforeItems, beforeTurn, beforeMarks, lineEnd, lastLine}
 
 -- the bytes of lexemes
 unfoldable pub written : List Lexeme → List ℕ
@@ -31,19 +32,23 @@ isToken (b ∷ c ∷ bs) = all isWordByte (b ∷ c ∷ bs)
 
 -- the tokens of the head
 unfoldable pub headTokens : ℕ → ℕ → List Token
-headTokens yards pieces = form "(sheet (yards" ++ decimal yards ∷ form ") (pieces" ++ decimal pieces ∷ form "))\n"
+headTokens agents items = form beforeAgents ++ decimal agents ∷ form beforeItems ++ decimal items ∷ form lineEnd
+
+-- the tokens of entries one after another, the first of them with the number `turn`
+unfoldable pub tokensInTurn : {A : Type 0} → (ℕ → A → List Token) → ℕ → List A → List Token
+tokensInTurn tokensOf turn [] = []
+tokensInTurn tokensOf turn (a ∷ others) = tokensOf turn a ++ tokensInTurn tokensOf (turn + 1) others
 
 -- the tokens of a yard line up to its marks, of the line, and of the lines from the given yard on
 unfoldable pub turnTokens : ℕ → List Token
-turnTokens yard = form "(yard" ++ decimal yard ∷ form "(marks"
+turnTokens yard = form beforeTurn ++ decimal yard ∷ form beforeMarks
 
 unfoldable pub yardTokens : ℕ → List ℕ → List Token
-yardTokens yard row = turnTokens yard ++ map decimal row ++ form "))\n"
+yardTokens yard row = turnTokens yard ++ map decimal row ++ form lineEnd
 
-unfoldable pub yardsTokens : ℕ → List (List ℕ) → List Token
-yardsTokens yard [] = []
-yardsTokens yard (row ∷ rows) = yardTokens yard row ++ yardsTokens (yard + 1) rows
+abbrev pub yardsTokens : ℕ → List (List ℕ) → List Token
+yardsTokens yard rows = tokensInTurn yardTokens yard rows
 
 -- the tokens of a sheet with these rows of marks
 unfoldable pub sheetTokens : ℕ → ℕ → List (List ℕ) → List Token
-sheetTokens yards pieces rows = headTokens yards pieces ++ (yardsTokens 1 rows ++ form "(end)\n")
+sheetTokens agents items rows = headTokens agents items ++ (yardsTokens 1 rows ++ form lastLine)

@@ -7,9 +7,9 @@ use lib.ListN.{replicate}
 use lib.Dec.{eqb}
 use borrow.Author.Tests.{eqb-true, eq-eqb}
 use Rattle.lists.specs.Lists.{all}
-use Rattle.reading.specs.Tokens.{Token, Lexeme, singleton, lineFeed, space, opening, closing, firstByte, isDelimiter, isWordByte, gapDue, widen, continues, prefixed, withByte, lexemes, laidOut, tokensAfter}
+use Rattle.lexing.specs.Tokens.{Token, Lexeme, singleton, lineFeed, space, opening, closing, firstByte, isDelimiter, isWordByte, gapDue, widen, continues, prefixed, withByte, lexemes, laidOut, tokensAfter}
 use Rattle.strict_text.proofs.SheetTokens.{written, spaced, spelt, isToken}
-use Rattle.reading.proofs.LexemeLaws.{withByte-delimiter, withByte-word}
+use Rattle.lexing.proofs.lexemes.Lexemes.{withByte-delimiter, withByte-word}
 
 -- the bytes of the lexemes of a text are the text
 written-widen : (ls : List Lexeme) → written (widen ls) ≡ space ∷ written ls

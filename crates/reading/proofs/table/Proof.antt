@@ -1,85 +1,85 @@
--- `table` meets its contract: the blank table of a refused text, and the stored table of an accepted one. Assumes nothing.
-use mathlib.Core.Path.{_≡_, sym, ap, _∙_}
-use denote.Ref.{now}
-use Rattle.reading.specs.Tokens.{tokens}
-use Rattle.reading.specs.Grammar.{head}
-use Rattle.reading.specs.Reading.{reading}
-use Rattle.reading.specs.Answers.{answerOf}
-use Rattle.reading.specs.internal.Results.{ReadsHead}
-use Rattle.reading.specs.declared.Answer.the-variants.{Accepted}
-use Rattle.reading.specs.declared.lines.Head.the-variants.{Counts}
-use Rattle.reading.proofs.FormLaws.{tokens-start}
-use Rattle.reading.proofs.AnswerLaws.{refused-blank, headless-blank, accepted-yards, accepted-pieces, accepted-table}
-use borrow.Author.Needs.{needs}
+-- `table` meets its contract. The loop's invariant: the rows still to be copied, stored from place k on, make the whole table. Assumes nothing.
+use mathlib.Core.Path.{_≡_, refl, sym, ap, _∙_}
+use mathlib.Core.List.{[]}
+use Prim.Native.Nat.{_≤_, _-_}
+use native.Mathlib.Numerals.{add-one}
+use native.Mathlib.Omega.{arith}
+use lib.ListN.{length, drop, length-set, length-map, drop-of-length-le}
+use lib.Seq.{sets, drop-cons}
+use Rattle.lists.proofs.places.Stores.{sets-all}
+use Rattle.sheet.specs.Limits.{mostAgents}
+use Rattle.reading.specs.Outcome.{valuation, tableIn}
 use Rattle.reading.proofs.table.Statement.{statement}
 use Rattle.reading.proofs.table.Tie as tie
 
--- the text is accepted, and what its head says, where it has been read
-text-accepted : (c : tie.After-enum-told) → answerOf (reading (now (c .before .before .before .before .args .text))) ≡ Accepted (c .enum-told .given .0 .0)
-text-accepted c = sym (c .before .before .read .ensures) ∙ c .enum-told .given .1
+abbrev Inv-loop : tie.InvT-loop
+Inv-loop rows table₀ k₀ table k =
+    (k ≤ mostAgents) × (length table ≡ mostAgents)
+    × (sets table₀ 0 (tableIn rows) ≡ sets table k (tableIn (drop k rows)))
 
-head-read : (c : tie.After-yards) → let text = now (c .before .before .before .before .before .before .before .before .args .text) in
-    ReadsHead text (Counts (c .yards .given .0 .0) (c .yards .given .0 .1 .0) (c .yards .given .0 .1 .1 .0)) (head (tokens text))
-head-read c = rw (tokens-start _ _ (c .before .before .before .start .ensures)) at (rw (c .yards .given .1) at (c .before .before .read-head .ensures))
+abbrev μ-loop : tie.MeasureT-loop
+μ-loop rows table₀ k₀ table k = mostAgents - k
 
-read-requires : tie.Need-read-requires
-read-requires c κs = search needs
+places : (s : tie.Start Inv-loop μ-loop) → length (s .args .t1) ≡ mostAgents
+places s = s .good .0 .1 .0 .1
 
-enum-told : tie.Need-enum-told
-enum-told c = search needs
+blank-requires : tie.Need-blank-requires Inv-loop μ-loop
+blank-requires c κs = tt
 
-enum-told-2 : tie.Need-enum-told-2
-enum-told-2 c = search needs
+loop-holds : tie.Need-loop-holds Inv-loop μ-loop
+loop-holds c = (omega arith, rw (c .blank .ensures), refl)
 
-blank-requires : tie.Need-blank-requires
-blank-requires c κs = search needs
+mul-row : tie.Need-mul-row Inv-loop μ-loop
+mul-row c = omega arith
 
-returns : tie.Need-returns
-returns c = c .blank .ensures ∙ sym (refused-blank _ _ (sym (c .before .before .before .read .ensures) ∙ c .before .enum-told2 .given .1))
+array-copy-out-row : tie.Need-array-copy-out-row Inv-loop μ-loop
+array-copy-out-row c = omega arith
 
-start-requires : tie.Need-start-requires
-start-requires c κs = search needs
+mul-table : tie.Need-mul-table Inv-loop μ-loop
+mul-table c = omega arith
 
-read-head-requires : tie.Need-read-head-requires
-read-head-requires c κs = search needs
+array-set-from-table : tie.Need-array-set-from-table Inv-loop μ-loop
+array-set-from-table c = omega arith
 
-enum-known-yards : tie.Need-enum-known-yards
-enum-known-yards c = search needs
+add-k : tie.Need-add-k Inv-loop μ-loop
+add-k c = omega arith
 
-enum-told-3 : tie.Need-enum-told-3
-enum-told-3 c = search needs
+loop-less : tie.Need-loop-less Inv-loop μ-loop
+loop-less c = omega arith
 
-blank-requires-2 : tie.Need-blank-requires-2
-blank-requires-2 c κs = search needs
+loop-again : tie.Need-loop-again Inv-loop μ-loop
+loop-again c =
+    let l = c .before .before .before in
+    let s = l .before .before in
+    let rows = s .args .t1 in (
+      omega arith,
+      simp length-set (l .loop .inv .1),
+      l .loop .inv .2
+          ∙ ap (λ later. sets (l .loop .table) (l .loop .k) (tableIn later)) (drop-cons rows (l .loop .k) (valuation []) (omega (arith, places s)))
+          ∙ rw (add-one (l .loop .k)),
+    )
 
-returns-2 : tie.Need-returns-2
-returns-2 c =
-    c .blank2 .ensures
-    ∙ sym (headless-blank _ (ap head (sym (tokens-start _ _ (c .before .before .before .before .start .ensures))) ∙ rw (c .before .enum-told3 .given .1) at (c .before .before .before .read-head .ensures)))
-
-rows-requires : tie.Need-rows-requires
-rows-requires c κs =
-    let h = head-read (c .before) in
-    let e = text-accepted (c .before .before .before .before .before) in
-    (h .0, (accepted-yards _ _ _ _ _ e (h .1), accepted-pieces _ _ _ _ _ e (h .1)))
-
-returns-3 : tie.Need-returns-3
-returns-3 c = c .rows .ensures ∙ accepted-table _ _ _ _ _ (text-accepted (c .before .before .before .before .before .before)) (head-read (c .before .before) .1)
+returns : tie.Need-returns Inv-loop μ-loop
+returns c =
+    let l = c .before in
+    let s = l .before .before in
+    let blank-places : length (l .before .blank .result) ≡ mostAgents = ap length (l .before .blank .ensures) in
+    sym (l .loop .inv .2 ∙ ap (λ later. sets (l .loop .table) (l .loop .k) (tableIn later)) (drop-of-length-le (s .args .t1) {i = l .loop .k} (omega (arith, places s))))
+    ∙ sets-all (l .before .blank .result) (tableIn (s .args .t1)) (simp length-map (places s ∙ sym blank-places))
 
 pub table-spec : {M : Type 1} → statement M
 table-spec =
     tie.close
     (tie.spec
-    read-requires
-    enum-told
-    enum-told-2
+    Inv-loop
+    μ-loop
     blank-requires
-    returns
-    start-requires
-    read-head-requires
-    enum-known-yards
-    enum-told-3
-    blank-requires-2
-    returns-2
-    rows-requires
-    returns-3)
+    loop-holds
+    mul-row
+    array-copy-out-row
+    mul-table
+    array-set-from-table
+    add-k
+    loop-less
+    loop-again
+    returns)

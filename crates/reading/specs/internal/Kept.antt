@@ -1,36 +1,44 @@
--- What is kept of marks and of yard lines while they are read. Assumes nothing: these are definitions.
+-- What is kept of marks and of yard lines while they are read: places that are filled, and one test. Assumes nothing: these are
+-- definitions.
 use mathlib.Core.List.{List, map}
 use mathlib.Core.Option.{Option, none, some}
 use mathlib.Core.Bool.{Bool, true, _&&_}
 use Prim.Native.Nat.{ℕ, _+_, _%_}
 use lib.Seq.{sets}
+use Rattle.lists.specs.Lists.{all}
 use Rattle.sheet.specs.Limits.{greatestMark, blankRow, blankTable}
-use Rattle.reading.specs.Tokens.{Token}
-use Rattle.reading.specs.Reading.{allFit, allRowsFit}
+use Rattle.lexing.specs.Tokens.{Token}
+use Rattle.reading.specs.Reading.{allowed, allowedRow}
+use Rattle.reading.specs.Outcome.{valuation}
+use Rattle.reading.specs.declared.Valuation.{Valuation}
 
--- a mark as it is stored, before it is known whether it fits
+module _ {A B : Type 0} (stored : A → B) (test : A → Bool) where
+  -- of a list that is read, stored in the places from k on: the places, whether all entries pass the test, and what follows
+  unfoldable pub keptAfter : ℕ → List B → Bool → Option (List A × List Token) → Option (List B × Bool × List Token)
+  keptAfter k places passed none = none
+  keptAfter k places passed (some r) = some (sets places k (map stored (r .0)), passed && all test (r .0), r .1)
+
+-- a mark as it is stored, before it is known whether it is allowed
 abbrev pub reduced : ℕ → ℕ
 reduced m = m % (greatestMark + 1)
 
--- what is kept of marks that are read into a row from place k on: the row, whether all fit, and what follows
-unfoldable pub keptAfter : ℕ → List ℕ → Bool → Option (List ℕ × List Token) → Option (List ℕ × Bool × List Token)
-keptAfter k row fit none = none
-keptAfter k row fit (some r) = some (sets row k (map reduced (r .0)), fit && allFit (r .0), r .1)
+-- what is kept of marks that are read into a row from place k on, and of all marks of a line
+abbrev pub keptMarksAfter : ℕ → List ℕ → Bool → Option (List ℕ × List Token) → Option (List ℕ × Bool × List Token)
+keptMarksAfter k row passed o = keptAfter reduced allowed k row passed o
 
--- a row with marks stored from its front
+abbrev pub keptMarks : Option (List ℕ × List Token) → Option (List ℕ × Bool × List Token)
+keptMarks o = keptMarksAfter 0 blankRow true o
+
+-- the row that marks make
 abbrev pub rowOf : List ℕ → List ℕ
 rowOf ms = sets blankRow 0 (map reduced ms)
 
--- what is kept of the marks of a line
-unfoldable pub kept : Option (List ℕ × List Token) → Option (List ℕ × Bool × List Token)
-kept o = keptAfter 0 blankRow true o
+-- what is kept of yard lines that are read into rows from row k on, and of all yard lines
+abbrev pub keptLinesAfter : ℕ → List Valuation → Bool → Option (List (List ℕ) × List Token) → Option (List Valuation × Bool × List Token)
+keptLinesAfter k rows passed o = keptAfter (λ ms. valuation (rowOf ms)) allowedRow k rows passed o
 
--- what is kept of yard lines for the refusals: whether all marks fit, and what follows
-unfoldable pub fitsAfter : Bool → Option (List (List ℕ) × List Token) → Option (Bool × List Token)
-fitsAfter fit none = none
-fitsAfter fit (some r) = some (fit && allRowsFit (r .0), r .1)
+abbrev pub blankRows : List Valuation
+blankRows = map valuation blankTable
 
--- the table with the rows of yard lines stored from row k on
-unfoldable pub storedAfter : ℕ → List (List ℕ) → Option (List (List ℕ) × List Token) → List (List ℕ)
-storedAfter k table none = blankTable
-storedAfter k table (some r) = sets table k (map rowOf (r .0))
+abbrev pub keptLines : Option (List (List ℕ) × List Token) → Option (List Valuation × Bool × List Token)
+keptLines o = keptLinesAfter 0 blankRows true o

@@ -1,31 +1,34 @@
 -- `lines::read_marks` meets its contract. The loop's invariant: the marks still due, kept after those in the row, are what is to be read. Assumes nothing.
 use mathlib.Core.Path.{_≡_, refl, _∙_}
-use Prim.Native.Nat.{_≤_, _-_}
+use Prim.Native.Nat.{_≤_, _+_, _-_}
 use native.Mathlib.Nat.{sub-zero}
 use native.Mathlib.Omega.{arith}
 use borrow.Author.Needs.{needs}
 use lib.ListN.{length, length-set}
+use Rattle.sheet.specs.Limits.{mostItems, markDigits}
+use Rattle.lexing.specs.Forms.{inTurn}
+use Rattle.lexing.specs.Numbers.{number}
+use Rattle.lexing.specs.Places.{tokensAt}
 use Rattle.reading.specs.Grammar.{marks}
-use Rattle.sheet.specs.Limits.{mostItems}
-use Rattle.reading.specs.internal.Places.{tokensAt}
-use Rattle.reading.specs.internal.Kept.{keptAfter, kept}
-use Rattle.reading.proofs.RowLaws.{kept-read, kept-missed, kept-all}
+use Rattle.reading.specs.internal.Kept.{keptMarksAfter}
+use Rattle.reading.proofs.kept.InTurn.{kept-read, kept-missed, kept-all}
 use Rattle.reading.proofs.lines.read_marks.Statement.{statement}
 use Rattle.reading.proofs.lines.read_marks.Tie as tie
 
 abbrev Inv-loop : tie.InvT-loop
-Inv-loop s pieces row₀ fit₀ here₀ k₀ row fit here k =
-    (k ≤ pieces) × (here .at ≤ length s) × (length row ≡ mostItems)
-    × (keptAfter 0 row₀ fit₀ (marks pieces (tokensAt s here₀)) ≡ keptAfter k row fit (marks (pieces - k) (tokensAt s here)))
+Inv-loop s items row₀ allowed₀ here₀ k₀ row allowed here k =
+    (k ≤ items) × (length row ≡ mostItems)
+    × (keptMarksAfter 0 row₀ allowed₀ (marks items (tokensAt s here₀))
+    ≡ keptMarksAfter k row allowed (inTurn (λ piece. number markDigits) (k + 1) (items - k) (tokensAt s here)))
 
 abbrev μ-loop : tie.MeasureT-loop
-μ-loop s pieces row₀ fit₀ here₀ k₀ row fit here k = pieces - k
+μ-loop s items row₀ allowed₀ here₀ k₀ row allowed here k = items - k
 
 loop-holds : tie.Need-loop-holds Inv-loop μ-loop
-loop-holds c = (omega arith, c .before .pre .0, refl, rw sub-zero)
+loop-holds c = (omega arith, refl, rw sub-zero)
 
 read-number-requires : tie.Need-read-number-requires Inv-loop μ-loop
-read-number-requires c κs = (c .before .loop .inv .1, omega arith)
+read-number-requires c κs = tt
 
 enum-known-m : tie.Need-enum-known-m Inv-loop μ-loop
 enum-known-m c = search needs
@@ -37,11 +40,11 @@ unread-requires : tie.Need-unread-requires Inv-loop μ-loop
 unread-requires c κs = tt
 
 returns : tie.Need-returns Inv-loop μ-loop
-unfolding kept
 returns c =
+    let number-read = c .before .before .before in
     rw (c .unread .ensures)
-    (c .before .before .before .before .before .loop .inv .3
-    ∙ kept-missed _ _ _ _ _ (c .before .before .before .before .loop-test .taken) (rw (c .before .enum-told .given .1) at (c .before .before .before .read-number .ensures)))
+    (number-read .before .before .loop .inv .2
+    ∙ kept-missed _ _ _ _ _ _ _ _ _ _ (number-read .before .loop-test .taken) (rw (c .before .enum-told .given .1) at (number-read .read-number .ensures)))
 
 cast-row : tie.Need-cast-row Inv-loop μ-loop
 cast-row c = search needs
@@ -63,16 +66,16 @@ loop-less c = omega arith
 
 loop-again : tie.Need-loop-again Inv-loop μ-loop
 loop-again c =
-    let h = rw (c .before .before .m .given .1) at (c .before .before .before .before .read-number .ensures) in (
+    let number-read = c .before .before .before .before in
+    let loop = number-read .before .before in
+    let h = rw (c .before .before .m .given .1) at (number-read .read-number .ensures) in (
       omega arith,
-      h .0,
-      simp length-set (c .before .before .before .before .before .before .loop .inv .2),
-      rw (c .both .ensures) (c .before .before .before .before .before .before .loop .inv .3 ∙ kept-read _ _ _ _ _ _ _ (c .before .before .before .before .before .loop-test .taken) (h .1)),
+      simp length-set (loop .loop .inv .1),
+      rw (c .both .ensures) (loop .loop .inv .2 ∙ kept-read _ _ _ _ _ _ _ _ _ _ _ _ (number-read .before .loop-test .taken) (h .1)),
     )
 
 returns-2 : tie.Need-returns-2 Inv-loop μ-loop
-unfolding kept
-returns-2 c = (c .before .loop .inv .1, c .before .loop .inv .3 ∙ kept-all _ _ _ _ _ (c .loop-test .left))
+returns-2 c = c .before .loop .inv .2 ∙ kept-all _ _ _ _ _ _ _ _ _ _ (c .loop-test .left)
 
 pub read-marks-spec : {M : Type 1} → statement M
 read-marks-spec =

@@ -25,13 +25,15 @@ slice-aggregate-follow : tie.Need-slice-aggregate-follow
 slice-aggregate-follow c = search needs
 
 follow-requires : tie.Need-follow-requires
-follow-requires c κs = let h = rw (c .before .before .before .k .given .1) at (c .before .before .before .before .before .number-after .ensures) in h .0
+follow-requires c κs = search needs
 
 returns-2 : tie.Need-returns-2
 unfolding yardTurn
 returns-2 c =
-    let h = rw (c .before .before .before .before .k .given .1) at (c .before .before .before .before .before .before .number-after .ensures) in
-    rw (h .1, eq-eqb (c .before .before .before .before .k .given .0 .0) (c .before .before .before .before .before .before .before .before .before .args .turn) (c .before .before .if1 .taken)) (c .follow .ensures)
+    let n = c .before .before .before .before in
+    let asked = n .before .before .before .before .before .args in
+    let h = rw (n .k .given .1) at (n .before .before .number-after .ensures) in
+    rw (h .1, eq-eqb (n .k .given .0 .0) (asked .turn) (c .before .before .if1 .taken)) (c .follow .ensures)
 
 returns-3 : tie.Need-returns-3
 unfolding yardTurn

@@ -1,38 +1,53 @@
--- `lines::yard_lines` meets its contract. The loop's invariant: the lines still due decide with the marks passed. Assumes nothing.
-use mathlib.Core.Path.{_≡_, _∙_}
+-- `lines::yard_lines` meets its contract. The loop's invariant: the lines still due, kept after those in the rows, are what is to be read. Assumes nothing.
+use mathlib.Core.Path.{_≡_, ap, _∙_}
 use Prim.Native.Nat.{_≤_, _+_, _-_}
 use native.Mathlib.Nat.{sub-zero}
 use native.Mathlib.Omega.{arith}
 use borrow.Author.Tests.{not-true, not-false}
-use lib.ListN.{length}
-use Rattle.reading.specs.Grammar.{yardLines}
-use Rattle.reading.specs.internal.Places.{tokensAt}
-use Rattle.reading.specs.internal.Kept.{fitsAfter}
-use Rattle.reading.proofs.LineLaws.{fits-missed, fits-read, fits-done}
+use lib.ListN.{length, length-set}
+use Rattle.sheet.specs.Limits.{mostAgents}
+use Rattle.lexing.specs.Forms.{inTurn}
+use Rattle.lexing.specs.Places.{tokensAt}
+use Rattle.reading.specs.Grammar.{yardLine, yardLines}
+use Rattle.reading.specs.internal.Kept.{keptLinesAfter, keptLines}
+use Rattle.reading.proofs.kept.InTurn.{kept-all}
+use Rattle.reading.proofs.kept.YardLine.{line-missed, line-read}
 use Rattle.reading.proofs.lines.yard_lines.Statement.{statement}
 use Rattle.reading.proofs.lines.yard_lines.Tie as tie
 
 abbrev Inv-loop : tie.InvT-loop
-Inv-loop s yards pieces here₀ fit₀ k₀ here fit k =
-    (k ≤ yards) × (here .at ≤ length s)
-    × (fitsAfter fit₀ (yardLines 1 yards pieces (tokensAt s here₀)) ≡ fitsAfter fit (yardLines (k + 1) (yards - k) pieces (tokensAt s here)))
+Inv-loop s agents items rows₀ allowed₀ here₀ k₀ rows allowed here k =
+    (k ≤ agents) × (length rows ≡ mostAgents)
+    × (keptLines (yardLines agents items (tokensAt s here₀))
+    ≡ keptLinesAfter k rows allowed (inTurn (yardLine items) (k + 1) (agents - k) (tokensAt s here)))
 
 abbrev μ-loop : tie.MeasureT-loop
-μ-loop s yards pieces here₀ fit₀ k₀ here fit k = yards - k
+μ-loop s agents items rows₀ allowed₀ here₀ k₀ rows allowed here k = agents - k
+
+blank-rows-requires : tie.Need-blank-rows-requires Inv-loop μ-loop
+blank-rows-requires c κs = tt
 
 loop-holds : tie.Need-loop-holds Inv-loop μ-loop
-loop-holds c = (omega arith, c .before .pre .0, rw sub-zero)
+loop-holds c = (omega arith, ap length (c .blank-rows .ensures), rw (c .blank-rows .ensures, sub-zero))
 
 add-yard-line : tie.Need-add-yard-line Inv-loop μ-loop
 add-yard-line c = omega arith
 
 yard-line-requires : tie.Need-yard-line-requires Inv-loop μ-loop
-yard-line-requires c κs = (c .before .loop .inv .1, omega arith)
+yard-line-requires c κs = omega arith
 
 returns : tie.Need-returns Inv-loop μ-loop
 returns c =
-    let e = not-true (c .before .before .yard-line .result .read) (c .if1 .taken) in
-    c .before .before .before .before .loop .inv .2 ∙ fits-missed _ _ _ _ _ _ (c .before .before .before .loop-test .taken) (rw e at (c .before .before .yard-line .ensures))
+    let line = c .before .before .before in
+    let loop = line .before .before in
+    let e = not-true (line .yard-line .result .read) (c .if1 .taken) in
+    loop .loop .inv .2 ∙ line-missed _ _ _ _ _ _ (line .before .loop-test .taken) (rw e at (line .yard-line .ensures))
+
+mul-rows : tie.Need-mul-rows Inv-loop μ-loop
+mul-rows c = omega arith
+
+array-set-from-rows : tie.Need-array-set-from-rows Inv-loop μ-loop
+array-set-from-rows c = omega arith
 
 both-requires : tie.Need-both-requires Inv-loop μ-loop
 both-requires c κs = tt
@@ -45,14 +60,16 @@ loop-less c = omega arith
 
 loop-again : tie.Need-loop-again Inv-loop μ-loop
 loop-again c =
-    let q = rw (not-false (c .before .before .before .before .yard-line .result .read) (c .before .before .if1 .left)) at (c .before .before .before .before .yard-line .ensures) in (
+    let line = c .before .before .before .before .before in
+    let loop = line .before .before in
+    let e = not-false (line .yard-line .result .read) (c .before .before .if1 .left) in (
       omega arith,
-      q .0,
-      rw (c .before .both .ensures) (c .before .before .before .before .before .before .loop .inv .2 ∙ fits-read _ _ _ _ _ _ _ _ _ (c .before .before .before .before .before .loop-test .taken) (q .1)),
+      simp length-set (loop .loop .inv .1),
+      rw (c .both .ensures) (loop .loop .inv .2 ∙ line-read _ _ _ _ _ _ (line .before .loop-test .taken) _ _ _ (rw e at (line .yard-line .ensures))),
     )
 
 returns-2 : tie.Need-returns-2 Inv-loop μ-loop
-returns-2 c = (c .before .loop .inv .1, c .before .loop .inv .2 ∙ fits-done _ _ _ _ _ _ (c .loop-test .left))
+returns-2 c = c .before .loop .inv .2 ∙ kept-all _ _ _ _ _ _ _ _ _ _ (c .loop-test .left)
 
 pub yard-lines-spec : {M : Type 1} → statement M
 yard-lines-spec =
@@ -60,10 +77,13 @@ yard-lines-spec =
     (tie.spec
     Inv-loop
     μ-loop
+    blank-rows-requires
     loop-holds
     add-yard-line
     yard-line-requires
     returns
+    mul-rows
+    array-set-from-rows
     both-requires
     add-k
     loop-less

@@ -6,10 +6,10 @@ use Rattle.reading_samples.proofs.answer.print_row.Statement.{statement
 use Rattle.reading_samples.proofs.answer.print_row.Tie as tie
 
 abbrev Inv-loop : tie.InvT-loop
-Inv-loop pieces row k₀ t5 k = Unit {0}
+Inv-loop items row k₀ t5 k = Unit {0}
 
 abbrev μ-loop : tie.MeasureT-loop
-μ-loop pieces row k₀ t5 k = mostItems - k
+μ-loop items row k₀ t5 k = mostItems - k
 
 loop-holds : tie.Need-loop-holds Inv-loop μ-loop
 loop-holds c = search needs

@@ -1,0 +1,18 @@
+-- The table that an outcome's rows make is the table that was read, and the blank one of a refused text. Assumes nothing.
+use mathlib.Core.Path.{_≡_, refl, ap₂}
+use mathlib.Core.List.{List, [], _∷_, map}
+use Prim.Native.Nat.{ℕ}
+use Rattle.sheet.specs.Limits.{blankTable}
+use Rattle.sheet.specs.Answers.{refused, accepted}
+use Rattle.reading.specs.Reading.{Contents}
+use Rattle.reading.specs.Outcome.{valuation, outcome, tableIn}
+
+marks-valuations : (rows : List (List ℕ)) → tableIn (map valuation rows) ≡ rows
+marks-valuations [] = refl
+marks-valuations (row ∷ rows) = ap₂ _∷_ refl (marks-valuations rows)
+
+pub tableIn-refused : (number : ℕ) → tableIn (outcome (refused number) .rows) ≡ blankTable
+tableIn-refused number = refl
+
+pub tableIn-accepted : (c : Contents) → tableIn (outcome (accepted c) .rows) ≡ c .table
+tableIn-accepted c = marks-valuations (c .table)
