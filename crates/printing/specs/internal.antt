@@ -1,4 +1,3 @@
 -- What the contracts of private functions cite.
-pub mod Output
-pub mod Items
+pub mod Cutters
 pub mod OutcomeText

@@ -2,18 +2,19 @@
 ghost use mathlib.Core.Path.{_≡_};
 ghost use Prim.Native.Nat.{_≤_};
 ghost use lib.ListN.{length};
-ghost use Rattle.sheet.specs.Limits.{mostAgents, mostItems};
-ghost use Rattle.printing.specs.Printing.{longestPrinted, fitted, printing, answered, bufferAfter};
+ghost use Rattle.sheet.specs.Limits.{InUse};
+ghost use Rattle.sheet.specs.Answers.{after};
+ghost use Rattle.writing.specs.Filled.{filling, filled};
+ghost use Rattle.printing.specs.Printing.{longestPrinted, printing, answered};
 ghost use Rattle.printing.specs.internal.OutcomeText.{outcomeText};
 use crate::lines::put_division;
-use crate::writing::put_bytes;
 use division::Outcome;
 use division::divide;
 use sheet::Table;
+use writing::put_bytes;
 
+mod cutters;
 mod lines;
-mod listing;
-mod writing;
 
 // A buffer of so many bytes is long enough for every division.
 pub const LONGEST: usize = 1100;
@@ -26,19 +27,19 @@ pub enum Answer {
 
 // Prints an outcome; refused with 10 where the buffer is shorter than the text.
 fn print_outcome(
-    yards: usize,
-    pieces: usize,
+    agents: usize,
+    items: usize,
     table: Table,
     grade: u8,
     outcome: Outcome,
     buffer: &mut [u8],
 ) -> Answer
-    requires { ⌜ (yards ≤ mostAgents) × (pieces ≤ mostItems) × (length (outcomeText yards pieces table grade outcome) ≤ longestPrinted) ⌝ }
-    ensures answer { λ r. ⌜ r ≡ answered (fitted (length (now (buffer .entry))) (outcomeText yards pieces table grade outcome)) ⌝ }
-    ensures buffer { λ _. ⌜ now (buffer .exit) ≡ bufferAfter (fitted (length (now (buffer .entry))) (outcomeText yards pieces table grade outcome)) (now (buffer .entry)) ⌝ }
+    requires { ⌜ InUse agents items × (length (outcomeText agents items table grade outcome) ≤ longestPrinted) ⌝ }
+    ensures answer { λ r. ⌜ r ≡ answered (filling (length (now (buffer .entry))) (outcomeText agents items table grade outcome)) ⌝ }
+    ensures buffer { λ _. ⌜ now (buffer .exit) ≡ after filled (filling (length (now (buffer .entry))) (outcomeText agents items table grade outcome)) (now (buffer .entry)) ⌝ }
 {
     let mut text = [0u8; LONGEST];
-    let length = put_division(&mut text, yards, pieces, table, grade, outcome);
+    let length = put_division(&mut text, agents, items, table, grade, outcome);
     if buffer.len() < length {
         return Answer::Refused(10);
     }
@@ -46,18 +47,18 @@ fn print_outcome(
     Answer::Printed(length)
 }
 
-// The division of a table of marks with these counts, printed from the front of the buffer. Refused as by `divide`, else with 10 where
-// the buffer is shorter than the text; then the buffer keeps all its bytes.
-pub fn print(table: Table, yards: usize, pieces: usize, buffer: &mut [u8]) -> Answer
-    ensures answer { λ r. ⌜ r ≡ answered (printing yards pieces table (length (now (buffer .entry)))) ⌝ }
-    ensures buffer { λ _. ⌜ now (buffer .exit) ≡ bufferAfter (printing yards pieces table (length (now (buffer .entry)))) (now (buffer .entry)) ⌝ }
+// Divides a table of marks with these counts and prints the division from the front of the buffer. Refused as by `divide`, else with
+// 10 where the buffer is shorter than the text; then the buffer keeps all its bytes.
+pub fn print_division(table: Table, agents: usize, items: usize, buffer: &mut [u8]) -> Answer
+    ensures answer { λ r. ⌜ r ≡ answered (printing agents items table (length (now (buffer .entry)))) ⌝ }
+    ensures buffer { λ _. ⌜ now (buffer .exit) ≡ after filled (printing agents items table (length (now (buffer .entry)))) (now (buffer .entry)) ⌝ }
 {
-    let outcome = divide(table, yards, pieces);
+    let outcome = divide(table, agents, items);
     let answer = outcome.answer;
     match answer {
         division::Answer::Refused(number) => Answer::Refused(number),
         division::Answer::Divided(grade) => {
-            print_outcome(yards, pieces, table, grade, outcome, buffer)
+            print_outcome(agents, items, table, grade, outcome, buffer)
         }
     }
 }

@@ -5,19 +5,19 @@ use Prim.Native.Nat.{ℕ, _≤_}
 use native.Mathlib.Omega.{arith}
 use lib.ListN.{length, length-append}
 use lib.Seq.{length-take-le}
-use borrow.Author.Tests.{lt-ltb, le-ltb}
+use borrow.Author.Tests.{lt-leb, le-leb}
 use Rattle.lists.specs.Lists.{zeros}
 use Rattle.printing.specs.Printing.{longestPrinted}
 use Rattle.printing.specs.declared.Answer.the-variants.{Printed}
 use Rattle.printing.specs.internal.OutcomeText.{outcomeText}
-use Rattle.printing.proofs.Written.{WholeAtFront, written-whole}
+use Rattle.writing.proofs.Filled.{WholeAtFront, written-whole}
 use borrow.Author.Needs.{needs}
 use Rattle.printing.proofs.print_outcome.Statement.{statement}
 use Rattle.printing.proofs.print_outcome.Tie as tie
 
 -- the text of the outcome
 abbrev textOf : tie.Start → List ℕ
-textOf s = let a = s .args in outcomeText (a .yards) (a .pieces) (a .table) (a .grade) (a .outcome)
+textOf s = let a = s .args in outcomeText (a .agents) (a .items) (a .table) (a .grade) (a .outcome)
 
 -- it stands whole at the front of the local array
 whole : (c : tie.After-put-division) → WholeAtFront (zeros longestPrinted) (textOf (c .before .before .before)) (c .put-division .last .0) (c .put-division .result)
@@ -34,14 +34,18 @@ put-division-requires c κs = search needs
 
 returns : tie.Need-returns
 returns c =
-    let s = c .before .before .before .before .before in
-    rw (lt-ltb (length (s .args .buffer .now)) (length (textOf s)) (omega (arith, whole (c .before .before) .reached))) (refl, refl)
+    let at-text = c .before .before in
+    let start = at-text .before .before .before in
+    rw (lt-leb (length (textOf start)) (length (start .args .buffer .now)) (omega (arith, whole at-text .reached))) (refl, refl)
 
 array-share-prefix-text : tie.Need-array-share-prefix-text
 array-share-prefix-text c = within (c .before .before .before)
 
 slice-aggregate-put-bytes : tie.Need-slice-aggregate-put-bytes
-slice-aggregate-put-bytes c = let p = c .before .before .before .before .put-division in sym (length-take-le (p .result) (p .last .0) (within (c .before .before .before .before)))
+slice-aggregate-put-bytes c =
+    let at-text = c .before .before .before .before in
+    let p = at-text .put-division in
+    sym (length-take-le (p .result) (p .last .0) (within at-text))
 
 put-bytes-requires : tie.Need-put-bytes-requires
 put-bytes-requires c κs = search needs
@@ -51,11 +55,13 @@ same-length c = search needs
 
 returns-2 : tie.Need-returns-2
 returns-2 c =
-    let s = c .before .before .before .before .before .before .before .before .before .before in
-    let w = whole (c .before .before .before .before .before .before .before) in
-    let room : length (textOf s) ≤ length (s .args .buffer .now) = omega (arith, w .reached) in
-    let printed = written-whole (rw (w .front) at (c .before .before .put-bytes .ensures)) room in
-    rw (le-ltb (length (s .args .buffer .now)) (length (textOf s)) room) (ap Printed (w .reached), printed .bytes-of)
+    let at-bytes = c .before .before in
+    let at-text = at-bytes .before .before .before .before .before in
+    let start = at-text .before .before .before in
+    let w = whole at-text in
+    let room : length (textOf start) ≤ length (start .args .buffer .now) = omega (arith, w .reached) in
+    let printed = written-whole (rw (w .front) at (at-bytes .put-bytes .ensures)) room in
+    rw (le-leb (length (textOf start)) (length (start .args .buffer .now)) room) (ap Printed (w .reached), printed .bytes-of)
 
 pub print-outcome-spec : {M : Type 1} → statement M
 print-outcome-spec =

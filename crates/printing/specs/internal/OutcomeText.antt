@@ -3,11 +3,11 @@
 use mathlib.Core.List.{List, []}
 use Prim.Native.Nat.{ℕ}
 use Rattle.lists.specs.Lists.{nth}
-use Rattle.sheet.specs.Sets.{items}
-use Rattle.rounds.specs.Valuations.{valuation}
-use Rattle.division.specs.declared.Cut.{Cut}
+use Rattle.sheet.specs.Sets.{itemsOf}
+use Rattle.sheet.specs.Tables.{valuation}
+use Rattle.shares.specs.declared.Cut.{Cut}
 use Rattle.division.specs.declared.Outcome.{Outcome}
-use Rattle.printing.specs.internal.Items.{beforeZero}
+use Rattle.printing.specs.internal.Cutters.{beforeZero}
 use Rattle.printing.specs.Printed.{yardLine, allLines}
 
 -- what stands beyond the last place of an array of cuts
@@ -16,8 +16,10 @@ noCut = record { partition = [] }
 
 -- the line of agent i
 abbrev pub outcomeLine : ℕ → ℕ → List (List ℕ) → List ℕ → List ℕ → List Cut → ℕ → List ℕ
-outcomeLine n m table bundles shares cuts i = yardLine n m i (valuation table i) (items (nth 0 bundles i)) (nth 0 shares i) (nth noCut cuts i .partition)
+outcomeLine agents items table bundles shares cuts i =
+    yardLine agents items i (valuation table i) (itemsOf (nth 0 bundles i)) (nth 0 shares i) (nth noCut cuts i .partition)
 
 -- the whole text
 unfoldable pub outcomeText : ℕ → ℕ → List (List ℕ) → ℕ → Outcome → List ℕ
-outcomeText n m table grade o = allLines n m grade (outcomeLine n m table (o .bundles) (o .shares) (o .cuts)) (beforeZero (o .cutters))
+outcomeText agents items table grade o =
+    allLines agents items grade (outcomeLine agents items table (o .bundles) (o .shares) (o .cuts)) (beforeZero (o .cutters))

@@ -1,6 +1,6 @@
 -- `lines::put_amounts` meets its contract. Assumes nothing.
 use Rattle.printing.specs.Printed.{amounts}
-use Rattle.printing.proofs.Written.{_then_}
+use Rattle.writing.proofs.Written.{_then_}
 use borrow.Author.Needs.{needs}
 use Rattle.printing.proofs.lines.put_amounts.Statement.{statement}
 use Rattle.printing.proofs.lines.put_amounts.Tie as tie
@@ -25,7 +25,11 @@ same-length c = search needs
 
 returns : tie.Need-returns
 unfolding amounts
-returns c = c .before .before .before .before .before .before .before .before .before .before .before .put-field .ensures then c .before .before .before .before .before .before .put-field2 .ensures then c .before .before .put .ensures
+returns c =
+    let at-end = c .before .before in
+    let at-share = at-end .before .before .before .before in
+    let at-worth = at-share .before .before .before .before .before in
+    at-worth .put-field .ensures then at-share .put-field2 .ensures then at-end .put .ensures
 
 pub put-amounts-spec : {M : Type 1} → statement M
 put-amounts-spec =

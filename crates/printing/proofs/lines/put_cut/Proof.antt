@@ -1,6 +1,6 @@
 -- `lines::put_cut` meets its contract. Assumes nothing.
 use Rattle.printing.specs.Printed.{cutGroup}
-use Rattle.printing.proofs.Written.{_then_}
+use Rattle.writing.proofs.Written.{_then_}
 use borrow.Author.Needs.{needs}
 use Rattle.printing.proofs.lines.put_cut.Statement.{statement}
 use Rattle.printing.proofs.lines.put_cut.Tie as tie
@@ -22,7 +22,11 @@ same-length c = search needs
 
 returns : tie.Need-returns
 unfolding cutGroup
-returns c = c .before .before .before .before .before .before .before .before .before .before .put-bytes .ensures then c .before .before .before .before .before .before .put-bundles .ensures then c .before .before .put .ensures
+returns c =
+    let at-end = c .before .before in
+    let at-bundles = at-end .before .before .before .before in
+    let at-word = at-bundles .before .before .before .before in
+    at-word .put-bytes .ensures then at-bundles .put-bundles .ensures then at-end .put .ensures
 
 pub put-cut-spec : {M : Type 1} → statement M
 put-cut-spec =

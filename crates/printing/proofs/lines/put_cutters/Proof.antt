@@ -6,7 +6,7 @@ use mir.Syntax.{w8}
 use borrow.Kind.Array.{eInt, good-length}
 use Rattle.sheet.specs.Limits.{mostAgents}
 use Rattle.printing.specs.Printed.{cuttersLine}
-use Rattle.printing.proofs.Written.{_then_}
+use Rattle.writing.proofs.Written.{_then_}
 use borrow.Author.Needs.{needs}
 use Rattle.printing.proofs.lines.put_cutters.Statement.{statement}
 use Rattle.printing.proofs.lines.put_cutters.Tie as tie

@@ -1,7 +1,7 @@
 -- `lines::put_division` meets its contract. Assumes nothing.
 use Rattle.printing.specs.Printed.{allLines}
 use Rattle.printing.specs.internal.OutcomeText.{outcomeText}
-use Rattle.printing.proofs.Written.{_then_}
+use Rattle.writing.proofs.Written.{_then_}
 use borrow.Author.Needs.{needs}
 use Rattle.printing.proofs.lines.put_division.Statement.{statement}
 use Rattle.printing.proofs.lines.put_division.Tie as tie

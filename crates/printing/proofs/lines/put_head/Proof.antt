@@ -1,6 +1,6 @@
 -- `lines::put_head` meets its contract. Assumes nothing.
+use Rattle.writing.proofs.Written.{_then_}
 use Rattle.printing.specs.Printed.{headLine}
-use Rattle.printing.proofs.Written.{_then_}
 use borrow.Author.Needs.{needs}
 use Rattle.printing.proofs.lines.put_head.Statement.{statement}
 use Rattle.printing.proofs.lines.put_head.Tie as tie
@@ -20,9 +20,6 @@ put-field-requires-2 c κs = search needs
 slice-aggregate-put-field-3 : tie.Need-slice-aggregate-put-field-3
 slice-aggregate-put-field-3 c = search needs
 
-wide-requires : tie.Need-wide-requires
-wide-requires c κs = search needs
-
 put-field-requires-3 : tie.Need-put-field-requires-3
 put-field-requires-3 c κs = search needs
 
@@ -40,11 +37,9 @@ unfolding headLine
 returns c =
     let at-end = c .before .before in
     let at-grade = at-end .before .before .before .before .before in
-    let at-wide = at-grade .before in
-    let at-pieces = at-wide .before .before .before .before .before in
-    let at-yards = at-pieces .before .before .before .before .before in
-    let grade-put = rw (at-wide .wide .ensures) at (at-grade .put-field3 .ensures) in
-    at-yards .put-field .ensures then at-pieces .put-field2 .ensures then grade-put then at-end .put-bytes .ensures
+    let at-items = at-grade .before .before .before .before .before in
+    let at-agents = at-items .before .before .before .before .before in
+    at-agents .put-field .ensures then at-items .put-field2 .ensures then at-grade .put-field3 .ensures then at-end .put-bytes .ensures
 
 pub put-head-spec : {M : Type 1} → statement M
 put-head-spec =
@@ -55,7 +50,6 @@ put-head-spec =
     slice-aggregate-put-field-2
     put-field-requires-2
     slice-aggregate-put-field-3
-    wide-requires
     put-field-requires-3
     slice-aggregate-put-bytes
     put-bytes-requires

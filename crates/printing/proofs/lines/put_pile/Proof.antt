@@ -1,8 +1,8 @@
 -- `lines::put_pile` meets its contract. Assumes nothing.
-use mathlib.Core.Path.{sym}
-use lib.Seq.{length-take-le}
+use Rattle.writing.proofs.Written.{_then_}
+use Rattle.sheet.specs.Sets.{itemsOf}
+use Rattle.sheet.proofs.listing.Listed.{listed-is, count-listed, count-places}
 use Rattle.printing.specs.Printed.{pileGroup}
-use Rattle.printing.proofs.Written.{_then_}
 use borrow.Author.Needs.{needs}
 use Rattle.printing.proofs.lines.put_pile.Statement.{statement}
 use Rattle.printing.proofs.lines.put_pile.Tie as tie
@@ -17,10 +17,14 @@ put-bytes-requires : tie.Need-put-bytes-requires
 put-bytes-requires c κs = search needs
 
 array-share-prefix-numbers : tie.Need-array-share-prefix-numbers
-array-share-prefix-numbers c = search needs
+array-share-prefix-numbers c =
+    let at-items = c .before .before .before .before .before .before .before in
+    count-places (itemsOf (at-items .before .before .args .pile)) (at-items .items-of .ensures)
 
 slice-aggregate-put-spaced : tie.Need-slice-aggregate-put-spaced
-slice-aggregate-put-spaced c = let bundle = c .before .before .before .before .before .before .before .before .items-of in sym (length-take-le (bundle .result .count) (bundle .result .numbers) (bundle .ensures .few))
+slice-aggregate-put-spaced c =
+    let at-items = c .before .before .before .before .before .before .before .before in
+    count-listed (itemsOf (at-items .before .before .args .pile)) (at-items .items-of .ensures)
 
 put-spaced-requires : tie.Need-put-spaced-requires
 put-spaced-requires c κs = search needs
@@ -38,7 +42,8 @@ returns c =
     let at-numbers = at-end .before .before .before .before in
     let at-word = at-numbers .before .before .before .before .before in
     let at-items = at-word .before .before .before .before in
-    let numbers-put = rw (at-items .items-of .ensures .listed) at (at-numbers .put-spaced .ensures) in
+    let listed = listed-is (itemsOf (at-items .before .before .args .pile)) (at-items .items-of .ensures) in
+    let numbers-put = rw listed at (at-numbers .put-spaced .ensures) in
     at-word .put-bytes .ensures then numbers-put then at-end .put .ensures
 
 pub put-pile-spec : {M : Type 1} → statement M

@@ -1,6 +1,6 @@
 -- `lines::put_yard` meets its contract. Assumes nothing.
 use Rattle.printing.specs.Printed.{yardLine}
-use Rattle.printing.proofs.Written.{_then_}
+use Rattle.writing.proofs.Written.{_then_}
 use borrow.Author.Needs.{needs}
 use Rattle.printing.proofs.lines.put_yard.Statement.{statement}
 use Rattle.printing.proofs.lines.put_yard.Tie as tie

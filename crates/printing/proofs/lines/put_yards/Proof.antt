@@ -1,24 +1,28 @@
 -- `lines::put_yards` meets its contract. The loop's invariant: the lines of the first i agents are written. Assumes nothing.
 use mathlib.Core.Path.{_≡_, refl, _∙_}
-use mathlib.Core.List.{flatMap}
+use mathlib.Core.List.{List, flatMap}
 use Rattle.lists.specs.Lists.{range}
-use Prim.Native.Nat.{_-_, _≤_}
+use Prim.Native.Nat.{ℕ, _+_, _-_, _≤_}
 use native.Mathlib.Omega.{arith}
 use lib.ListN.{length}
-use Rattle.printing.specs.internal.Output.{output, Written}
+use Rattle.writing.specs.Output.{output, Written}
 use Rattle.printing.specs.internal.OutcomeText.{outcomeLine}
-use Rattle.printing.proofs.Written.{nothing, _then_}
-use Rattle.printing.proofs.Texts.{flatMap-next}
-use Rattle.printing.proofs.OutcomeTexts.{outcomeLine-next}
+use Rattle.writing.proofs.Written.{nothing, _then_}
+use Rattle.lists.proofs.members.FlatMap.{flatMap-next}
+use Rattle.printing.proofs.outcomes.Texts.{outcomeLine-next}
 use Rattle.printing.proofs.lines.put_yards.Statement.{statement}
 use Rattle.printing.proofs.lines.put_yards.Tie as tie
 
 abbrev Inv-loop : tie.InvT-loop
-Inv-loop buffer₀ at yards pieces table bundles shares cuts next₀ i₀ buffer next i =
-    (i ≤ yards) × (length buffer ≡ length buffer₀) × Written (output buffer₀ at) (flatMap (outcomeLine yards pieces table bundles shares cuts) (range 1 i)) (output buffer next)
+Inv-loop buffer₀ at agents items table bundles shares cuts next₀ i₀ buffer next i =
+    (i ≤ agents) × (length buffer ≡ length buffer₀) × Written (output buffer₀ at) (flatMap (outcomeLine agents items table bundles shares cuts) (range 1 i)) (output buffer next)
 
 abbrev μ-loop : tie.MeasureT-loop
-μ-loop buffer₀ at yards pieces table bundles shares cuts next₀ i₀ buffer next i = yards - i
+μ-loop buffer₀ at agents items table bundles shares cuts next₀ i₀ buffer next i = agents - i
+
+-- the line of each agent
+abbrev lineOf : tie.At-loop Inv-loop μ-loop → ℕ → List ℕ
+lineOf c = let a = c .before .before .before .before .before .args in outcomeLine (a .agents) (a .items) (a .t5) (a .outcome .bundles) (a .outcome .shares) (a .outcome .cuts)
 
 loop-holds : tie.Need-loop-holds Inv-loop μ-loop
 unfolding flatMap
@@ -52,7 +56,19 @@ array-read-put-yard-2 : tie.Need-array-read-put-yard-2 Inv-loop μ-loop
 array-read-put-yard-2 c = omega arith
 
 put-yard-requires : tie.Need-put-yard-requires Inv-loop μ-loop
-put-yard-requires c κs = c .before .before .before .before .before .before .before .before .before .before .pre
+put-yard-requires c κs =
+    let at-loop = c .before .before .before .before .before in
+    at-loop .before .before .before .before .before .pre
+
+-- the line of the next agent is written
+line-written : (c : tie.After-put-yard Inv-loop μ-loop)
+    → let at-loop = c .before .before .before .before .before .before in
+    let l = at-loop .loop in
+    Written (output (l .buffer) (l .next)) (lineOf at-loop (l .i + 1)) (output (c .put-yard .last .0) (c .put-yard .result))
+line-written c =
+    let at-loop = c .before .before .before .before .before .before in
+    let a = at-loop .before .before .before .before .before .args in
+    rw (outcomeLine-next (a .agents) (a .items) (a .t5) (a .outcome .bundles) (a .outcome .shares) (a .outcome .cuts) (at-loop .loop .i)) (c .put-yard .ensures)
 
 add-i : tie.Need-add-i Inv-loop μ-loop
 add-i c = omega arith
@@ -62,15 +78,13 @@ loop-less c = omega arith
 
 loop-again : tie.Need-loop-again Inv-loop μ-loop
 loop-again c =
-    let l = c .before .before .before .before .before .before .before .before .loop in
-    let s = c .before .before .before .before .before .before .before .before .before .before .before .before .before in
-    let a = s .args in
-    let line = c .before .before .put-yard in
-    let lines = outcomeLine (a .yards) (a .pieces) (a .t5) (a .outcome .bundles) (a .outcome .shares) (a .outcome .cuts) in (
+    let at-line = c .before .before in
+    let at-loop = at-line .before .before .before .before .before .before in
+    let a = at-loop .before .before .before .before .before .args in
+    let l = at-loop .loop in (
       omega arith,
-      line .kept .0 ∙ l .inv .1,
-      rw (flatMap-next lines (l .i), outcomeLine-next (a .yards) (a .pieces) (a .t5) (a .outcome .bundles) (a .outcome .shares) (a .outcome .cuts) (l .i))
-          (l .inv .2 then line .ensures),
+      at-line .put-yard .kept .0 ∙ l .inv .1,
+      rw (flatMap-next (lineOf at-loop) (l .i)) (l .inv .2 then line-written at-line),
     )
 
 same-length : tie.Need-same-length Inv-loop μ-loop
@@ -79,7 +93,7 @@ same-length c = c .before .loop .inv .1
 returns : tie.Need-returns Inv-loop μ-loop
 returns c =
     let l = c .before .loop in
-    let all : l .i ≡ c .before .before .before .before .before .before .args .yards = omega arith in
+    let all : l .i ≡ c .before .before .before .before .before .before .args .agents = omega arith in
     rw all at (l .inv .2)
 
 pub put-yards-spec : {M : Type 1} → statement M

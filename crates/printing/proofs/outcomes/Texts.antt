@@ -1,0 +1,78 @@
+-- The text of an outcome: its lines by the places of the arrays; for the outcome of a division it is the division's printed text.
+-- Assumes nothing.
+use mathlib.Core.Path.{_≡_, ap, _∙_}
+use mathlib.Core.List.{List, [], _++_, map, List·Memᴰ as Mem}
+use mathlib.Core.List.{Sublistᴰ·trans as sublist-trans}
+use Prim.Native.Nat.{ℕ, _+_, _-_, _≤_}
+use native.Mathlib.Omega.{arith}
+use lib.Dec.{eqb}
+use lib.ListN.{length, getD, length-map, List·getD-map}
+use Rattle.lists.specs.Lists.{range, nth, zeros, padded}
+use Rattle.lists.proofs.ranges.Ranges.{range-bounds, length-range, range-sublist}
+use Rattle.lists.proofs.places.Padding.{nth-padded}
+use Rattle.lists.proofs.members.FlatMap.{flatMap-cong}
+use Rattle.lists.proofs.places.Places.{nth-next}
+use Rattle.lists.proofs.places.Defaults.{getD-default}
+use Rattle.text.specs.Bytes.{bytes}
+use Rattle.writing.specs.Fields.{group}
+use Rattle.sheet.specs.Limits.{mostAgents, mostItems, setBits}
+use Rattle.sheet.specs.Answers.{accepted}
+use Rattle.sheet.specs.Sets.{itemsOf, setOf}
+use Rattle.sheet.proofs.sets.Sets.{items-setOf}
+use Rattle.cut.specs.Outcome.{placed}
+use Rattle.rounds.specs.Division.{Division}
+use Rattle.shares.specs.declared.Cut.{Cut}
+use Rattle.shares.specs.Outcome.{cutOf, blankCut}
+use Rattle.division.specs.Outcome.{outcome}
+use Rattle.bundling.proofs.Bundles.{itemsIn-append}
+use Rattle.printing.specs.Printed.{cutBundle, cutGroup, yardLine, allLines, agentLine, printed}
+use Rattle.printing.specs.internal.OutcomeText.{noCut, outcomeLine, outcomeText}
+use Rattle.printing.proofs.printed.Printable.{Printable}
+use Rattle.printing.proofs.outcomes.Cutters.{beforeZero-padded}
+
+-- the line of agent i + 1 is made of what stands at place i
+pub outcomeLine-next : (n m : ℕ) (table : List (List ℕ)) (bundles shares : List ℕ) (cuts : List Cut) (i : ℕ)
+    → outcomeLine n m table bundles shares cuts (i + 1) ≡ yardLine n m (i + 1) (getD table i []) (itemsOf (getD bundles i 0)) (getD shares i 0) (getD cuts i noCut .partition)
+outcomeLine-next n m table bundles shares cuts i = rw (nth-next [] table i, nth-next 0 bundles i, nth-next 0 shares i, nth-next noCut cuts i)
+
+-- zeros behind a partition are left out
+cutGroup-padded : (n m : ℕ) (partition : List ℕ) → length partition ≡ m → cutGroup n m (placed partition) ≡ cutGroup n m partition
+unfolding cutGroup
+cutGroup-padded n m partition same =
+    ap (λ t. bytes " (cut" ++ t ++ bytes ")")
+    (flatMap-cong (cutBundle m (placed partition)) (cutBundle m partition) (range 1 n)
+    (λ c mc. ap (λ b. bytes " " ++ group b) (itemsIn-append (eqb c) (range 1 m) partition (zeros (mostItems - length partition)) (omega (arith, length-range 1 m)))))
+
+module _ (n m : ℕ) (table : List (List ℕ)) (d : Division) (few : m ≤ mostItems) (p : Printable n m d) where
+  -- agent i's cut in the array
+  nth-cut : (i : ℕ) → Mem i (range 1 n) → nth noCut (padded mostAgents blankCut (map cutOf (d .cuts))) i .partition ≡ placed (nth [] (d .cuts) i)
+  nth-cut i in-use =
+      let b = range-bounds 1 n in-use in
+      let each : length (map cutOf (d .cuts)) ≡ n = length-map (d .cuts) cutOf ∙ p .cut-each in
+      ap (λ c. c .partition)
+      (nth-padded mostAgents blankCut noCut (map cutOf (d .cuts)) (rw each in-use)
+      ∙ getD-default noCut blankCut (map cutOf (d .cuts)) (i - 1) (omega arith)
+      ∙ List·getD-map cutOf (d .cuts) (i - 1) [])
+
+  -- its bundle
+  nth-bundle : (i : ℕ) → Mem i (range 1 n) → itemsOf (nth 0 (padded mostAgents 0 (map setOf (d .bundles))) i) ≡ nth [] (d .bundles) i
+  nth-bundle i in-use =
+      let each : length (map setOf (d .bundles)) ≡ n = length-map (d .bundles) setOf ∙ p .bundle-each in
+      ap itemsOf (nth-padded mostAgents 0 0 (map setOf (d .bundles)) (rw each in-use) ∙ List·getD-map setOf (d .bundles) (i - 1) [])
+      ∙ items-setOf (nth [] (d .bundles) i) (sublist-trans (p .of-items i in-use) (range-sublist 1 m setBits (omega arith)))
+
+  nth-share : (i : ℕ) → Mem i (range 1 n) → nth 0 (padded mostAgents 0 (d .shares)) i ≡ nth 0 (d .shares) i
+  nth-share i in-use = nth-padded mostAgents 0 0 (d .shares) (rw (p .share-each) in-use)
+
+  outcomeLine-divided : (i : ℕ) → Mem i (range 1 n)
+      → let o = outcome (accepted d) in outcomeLine n m table (o .bundles) (o .shares) (o .cuts) i ≡ agentLine n m table d i
+  unfolding yardLine
+  outcomeLine-divided i in-use =
+      rw (nth-bundle i in-use, nth-share i in-use, nth-cut i in-use, cutGroup-padded n m (nth [] (d .cuts) i) (p .entry-each i in-use))
+
+  -- the text of the outcome of a division
+  pub outcomeText-divided : outcomeText n m table (d .grade) (outcome (accepted d)) ≡ printed n m table d
+  unfolding outcomeText printed allLines
+  outcomeText-divided =
+      let o = outcome (accepted d) in
+      rw (flatMap-cong (outcomeLine n m table (o .bundles) (o .shares) (o .cuts)) (agentLine n m table d) (range 1 n) outcomeLine-divided, beforeZero-padded n (mostAgents - length (d .cutters)) (d .cutters) (p .cutters-within))

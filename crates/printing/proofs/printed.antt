@@ -1,0 +1,5 @@
+-- The printed text of a division: what it needs of the division, how long it is, and the samples.
+pub mod Printable
+pub mod Lengths
+pub mod Longest
+pub mod Samples

@@ -1,0 +1,95 @@
+-- What printing needs of a division by the rounds: how many entries its lists have, and what these are. Assumes nothing.
+use mathlib.Core.Path.{_≡_, ap, _∙_}
+use mathlib.Core.Bool.{Bool, true, false, cond}
+use mathlib.Core.Logic.{⊎-elim}
+use mathlib.Core.List.{List, [], _∷_, map, map-map, List·Memᴰ as Mem, List·Memᴰ·not-nil as not-nil, List·Memᴰ·cases-cons as cases-cons, Memᴰ·of-map}
+use mathlib.Core.List.{Sublistᴰ as Sublist}
+use Prim.Native.Nat.{ℕ, zero, suc, _≤_, _<_}
+use native.Mathlib.Omega.{arith}
+use lib.ListN.{length, length-map}
+use Rattle.lists.specs.Lists.{range, nth, Within}
+use Rattle.lists.proofs.ranges.Ranges.{length-range, mem-within, nth-map-range}
+use Rattle.lists.proofs.members.Counting.{sublist-mem}
+use Rattle.sheet.specs.Valuations.{itemValue}
+use Rattle.sheet.specs.Tables.{valuation, allValues, profile}
+use Rattle.cut.specs.Share.{maximinShare, maximinPartition}
+use Rattle.cut.proofs.Laws.{maximinPartition-within}
+use Rattle.grading.specs.Grade.{envyFree, proportional, maximinFair, grade}
+use Rattle.matching.proofs.Cutter.{cutterOf-mem}
+use Rattle.rounds.specs.Terms.{termsFor}
+use Rattle.rounds.specs.Round.{Instance, Round, round, rounds, held}
+use Rattle.rounds.specs.Division.{Division, standardInstance, allRounds, allocation, divisionOf, divisionByRounds}
+use Rattle.rounds.proofs.round.Parts.{waiting-sub}
+use Rattle.rounds.proofs.round.Rounds.{held-sublist, rounds-few}
+use Rattle.rounds.proofs.Allocation.{length-allocation}
+
+-- an entry for each of n agents, bundles and cuts of the items 1 .. m, cutters among the agents
+pub record Printable (n m : ℕ) (d : Division) : Type 0 where
+  pub bundle-each : length (d .bundles) ≡ n
+  pub share-each : length (d .shares) ≡ n
+  pub cut-each : length (d .cuts) ≡ n
+  pub of-items : (i : ℕ) → Mem i (range 1 n) → Sublist (nth [] (d .bundles) i) (range 1 m)
+  pub entry-each : (i : ℕ) → Mem i (range 1 n) → length (nth [] (d .cuts) i) ≡ m
+  pub cutters-within : Within n (d .cutters)
+  pub few-cutters : length (d .cutters) ≤ n
+  pub one-digit : d .grade < 10
+
+module _ (G : Instance) where
+  -- every cutter is one of the agents
+  cutter-agent : (most : ℕ) (agents items : List ℕ) (r : Round) → Mem r (rounds G most agents items) → Mem (r .cutter) agents
+  unfolding rounds round
+  cutter-agent zero agents items r m = absurd (not-nil m)
+  cutter-agent (suc most) [] items r m = absurd (not-nil m)
+  cutter-agent (suc most) (a ∷ agents) items r m =
+      let now = round G (a ∷ agents) items in
+      ⊎-elim
+      (λ (e : r ≡ now). rw e (cutterOf-mem (a ∷ agents) (omega arith)))
+      (λ later. sublist-mem (waiting-sub G (a ∷ agents) items) (cutter-agent most (now .waiting) (now .left) r later))
+      (cases-cons m)
+
+-- a grade is 1, 2, 3 or 4
+grade-small : (n : ℕ) (valuations : List (List ℕ)) (shares : List ℕ) (bundles : List (List ℕ)) → grade n valuations shares bundles < 10
+unfolding grade
+grade-small n valuations shares bundles = step (envyFree n valuations shares bundles) (proportional n valuations shares bundles) (maximinFair n valuations shares bundles)
+  where
+    step : (a b c : Bool) → cond a 1 (cond b 2 (cond c 3 4)) < 10
+    step true b c = omega arith
+    step false true c = omega arith
+    step false false true = omega arith
+    step false false false = omega arith
+
+module _ (n m : ℕ) (table : List (List ℕ)) (some : 1 ≤ n) where
+  abbrev G : Instance
+  G = standardInstance n m table
+
+  profile-each : length (profile n m table) ≡ n
+  unfolding profile
+  profile-each = length-map (range 1 n) (λ i. allValues m (valuation table i)) ∙ length-range 1 n
+
+  nth-cuts : (i : ℕ) → Mem i (range 1 n) → nth [] (map (maximinPartition n) (profile n m table)) i ≡ maximinPartition n (allValues m (valuation table i))
+  unfolding profile
+  nth-cuts i in-use =
+      ap (λ l. nth [] l i) (map-map (maximinPartition n) (λ k. allValues m (valuation table k)) (range 1 n))
+      ∙ nth-map-range (λ k. maximinPartition n (allValues m (valuation table k))) [] n in-use
+
+  all-values : (row : List ℕ) → length (allValues m row) ≡ m
+  all-values row = length-map (range 1 m) (itemValue row) ∙ length-range 1 m
+
+  pub divisionByRounds-printable : Printable n m (divisionByRounds n m table)
+  unfolding divisionOf
+  divisionByRounds-printable =
+      record {
+        bundle-each = length-allocation n m (termsFor n) table;
+        share-each = length-map (profile n m table) (maximinShare n) ∙ profile-each;
+        cut-each = length-map (profile n m table) (maximinPartition n) ∙ profile-each;
+        of-items = λ i in-use. rw (nth-map-range (held (allRounds n m G)) [] n in-use) (held-sublist G n (range 1 n) (range 1 m) i);
+        entry-each = λ i in-use. ap length (nth-cuts i in-use) ∙ maximinPartition-within n (allValues m (valuation table i)) some .1 ∙ all-values (valuation table i);
+        cutters-within = mem-within n (map (λ r. r .cutter) (allRounds n m G)) cutter-in-range;
+        few-cutters = rw (length-map (allRounds n m G) (λ r. r .cutter)) (rounds-few G n (range 1 n) (range 1 m));
+        one-digit = grade-small n (profile n m table) (G .shares) (allocation n m G);
+      }
+    where
+      cutter-in-range : (c : ℕ) → Mem c (map (λ r. r .cutter) (allRounds n m G)) → Mem c (range 1 n)
+      cutter-in-range c mem =
+          let (r, mr, e) = Memᴰ·of-map (λ (r : Round). r .cutter) (allRounds n m G) mem in
+          rw (← e) (cutter-agent G n (range 1 n) (range 1 m) r mr)

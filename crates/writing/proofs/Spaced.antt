@@ -1,0 +1,13 @@
+-- Texts of numbers, one number more after the other. Assumes nothing.
+use mathlib.Core.Path.{_≡_, sym, ap, _∙_}
+use mathlib.Core.List.{List, [], _∷_, _++_, append-nil, append-assoc}
+use Prim.Native.Nat.{ℕ}
+use Rattle.text.specs.Bytes.{bytes}
+use Rattle.text.specs.Decimal.{decimal, spacedNumbers}
+
+-- one number more
+pub spacedNumbers-snoc : (ns : List ℕ) (n : ℕ) → spacedNumbers (ns ++ (n ∷ [])) ≡ spacedNumbers ns ++ (bytes " " ++ decimal n)
+unfolding spacedNumbers
+spacedNumbers-snoc [] n = append-nil (bytes " " ++ decimal n)
+spacedNumbers-snoc (k ∷ ns) n =
+    ap (λ t. bytes " " ++ decimal k ++ t) (spacedNumbers-snoc ns n) ∙ sym (append-assoc (bytes " " ++ decimal k) (spacedNumbers ns) (bytes " " ++ decimal n))

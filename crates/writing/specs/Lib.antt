@@ -1,0 +1,4 @@
+-- What is written into a lent buffer: bytes one after the other, fields and groups of numbers, a text that fills the buffer from its front.
+pub mod Output
+pub mod Fields
+pub mod Filled

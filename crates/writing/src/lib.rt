@@ -1,0 +1,74 @@
+// Writing into a lent buffer from a place on. Each function returns the place of the byte that comes next; what finds no room is left out.
+ghost use mathlib.Core.List.{[], _∷_, _++_};
+ghost use Rattle.text.specs.Decimal.{decimal, spacedNumbers};
+ghost use Rattle.writing.specs.Fields.{group};
+ghost use Rattle.writing.specs.Output.{output, Written};
+
+// One byte, where there is room.
+pub fn put(buffer: &mut [u8], at: usize, byte: u8) -> usize
+    ensures { λ r. ⌜ Written (output (now (buffer .entry)) at) (byte ∷ []) (output (now (buffer .exit)) r) ⌝ }
+{
+    if at < buffer.len() {
+        buffer[at] = byte;
+        return at + 1;
+    }
+    at
+}
+
+// Bytes that stand in another buffer.
+pub fn put_bytes(buffer: &mut [u8], at: usize, text: &[u8]) -> usize
+    ensures { λ r. ⌜ Written (output (now (buffer .entry)) at) (now (text .entry)) (output (now (buffer .exit)) r) ⌝ }
+{
+    let mut next = at;
+    let mut i: usize = 0;
+    while i < text.len() {
+        next = put(buffer, next, text[i]);
+        i += 1;
+    }
+    next
+}
+
+// A number in decimal digits: those of the tens, and then the last one.
+pub fn put_number(buffer: &mut [u8], at: usize, n: u64) -> usize
+    ensures { λ r. ⌜ Written (output (now (buffer .entry)) at) (decimal n) (output (now (buffer .exit)) r) ⌝ }
+{
+    if n < 10 {
+        return put(buffer, at, b'0' + n as u8);
+    }
+    let next = put_number(buffer, at, n / 10);
+    put(buffer, next, b'0' + (n % 10) as u8)
+}
+
+// A text and a number behind it.
+pub fn put_field(buffer: &mut [u8], at: usize, text: &[u8], n: u64) -> usize
+    ensures { λ r. ⌜ Written (output (now (buffer .entry)) at) (now (text .entry) ++ decimal n) (output (now (buffer .exit)) r) ⌝ }
+{
+    let next = put_bytes(buffer, at, text);
+    put_number(buffer, next, n)
+}
+
+// Numbers, each behind a space.
+pub fn put_spaced(buffer: &mut [u8], at: usize, numbers: &[u8]) -> usize
+    ensures { λ r. ⌜ Written (output (now (buffer .entry)) at) (spacedNumbers (now (numbers .entry))) (output (now (buffer .exit)) r) ⌝ }
+{
+    let mut next = at;
+    let mut i: usize = 0;
+    while i < numbers.len() {
+        next = put(buffer, next, b' ');
+        next = put_number(buffer, next, numbers[i] as u64);
+        i += 1;
+    }
+    next
+}
+
+// Numbers in brackets.
+pub fn put_group(buffer: &mut [u8], at: usize, numbers: &[u8]) -> usize
+    ensures { λ r. ⌜ Written (output (now (buffer .entry)) at) (group (now (numbers .entry))) (output (now (buffer .exit)) r) ⌝ }
+{
+    if numbers.len() == 0 {
+        return put_bytes(buffer, at, b"()");
+    }
+    let first = put_field(buffer, at, b"(", numbers[0] as u64);
+    let last = put_spaced(buffer, first, &numbers[1..]);
+    put(buffer, last, b')')
+}
