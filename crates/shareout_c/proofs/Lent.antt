@@ -1,16 +1,18 @@
--- What the answer of the whole box says to a caller. Assumes nothing.
+-- What the answer says to a caller. Assumes nothing.
 use mathlib.Core.Path.{_≡_, refl}
+use mathlib.Core.List.{List}
 use Prim.Native.Nat.{ℕ}
-use Rattle.printing.specs.Printing.{Printing, refused, text, answered}
+use Rattle.sheet.specs.Answers.{Answer, refused, accepted, numberOf, after}
+use Rattle.printing.specs.Printing.{answered}
 use Rattle.printing.specs.declared.Answer.the-variants.{Refused, Printed}
-use Rattle.shareout_c.specs.Lent.{numberOf, lengthOf}
+use Rattle.shareout_c.specs.Lent.{lengthStored}
 
--- a refusal answers 0, and its number is stored
-pub lent-refused : (p : Printing) (number : ℕ) → answered p ≡ Refused number → (0 ≡ lengthOf p) × (number ≡ numberOf p)
-lent-refused (refused n) number e = (refl, cc)
-lent-refused (text t) number e = (cc, cc)
+-- a refusal answers its number, and the length keeps its content
+pub lent-refused : (a : Answer (List ℕ)) (number old : ℕ) → answered a ≡ Refused number → (number ≡ numberOf a) × (old ≡ after lengthStored a old)
+lent-refused (refused n) number old e = (cc, refl)
+lent-refused (accepted text) number old e = (cc, cc)
 
--- a text answers its length, and 0 is stored
-pub lent-printed : (p : Printing) (length : ℕ) → answered p ≡ Printed length → (length ≡ lengthOf p) × (0 ≡ numberOf p)
-lent-printed (refused n) length e = (cc, cc)
-lent-printed (text t) length e = (cc, refl)
+-- a text answers 0, and its length is stored
+pub lent-printed : (a : Answer (List ℕ)) (printed old : ℕ) → answered a ≡ Printed printed → (0 ≡ numberOf a) × (printed ≡ after lengthStored a old)
+lent-printed (refused n) printed old e = (cc, cc)
+lent-printed (accepted text) printed old e = (refl, cc)

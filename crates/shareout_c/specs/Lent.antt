@@ -1,14 +1,8 @@
--- What a caller by C's calling convention is answered. Assumes nothing: these are definitions.
+-- What a caller by C's calling convention finds in the length that it lent. Assumes nothing: these are definitions.
+use mathlib.Core.List.{List}
 use Prim.Native.Nat.{ℕ}
 use lib.ListN.{length}
-use Rattle.printing.specs.Printing.{Printing, refused, text}
 
--- 0, or the number of the refusal
-abbrev pub numberOf : Printing → ℕ
-numberOf (refused number) = number
-numberOf (text t) = 0
-
--- the length printed, and 0 on a refusal
-abbrev pub lengthOf : Printing → ℕ
-lengthOf (refused number) = 0
-lengthOf (text t) = length t
+-- the length of the text that was printed, in the place of the old content
+abbrev pub lengthStored : List ℕ → ℕ → ℕ
+lengthStored text old = length text

@@ -1,28 +1,26 @@
-// The whole box for callers in C or Rust, by C's calling convention.
+// From a sheet to its division for callers in C or Rust, by C's calling convention.
 ghost use mathlib.Core.Path.{_≡_};
-ghost use lib.ListN.{length};
-ghost use Rattle.printing.specs.Printing.{bufferAfter};
-ghost use Rattle.whole.specs.ShareOut.{shareOut};
-ghost use Rattle.shareout_c.specs.Lent.{numberOf, lengthOf};
+ghost use lib.ListN;
+ghost use Rattle.sheet.specs.Answers.{numberOf, after};
+ghost use Rattle.writing.specs.Filled.{filled};
+ghost use Rattle.sheet_to_division.specs.ShareOut.{shareOut};
+ghost use Rattle.shareout_c.specs.Lent.{lengthStored};
 use printing::Answer;
 
-// Prints the division of the sheet that `text` holds into the lent buffer. Answers the length printed and stores 0, or answers 0,
-// stores the number of the refusal and leaves the buffer as it is.
+// Prints the division of the sheet that `text` holds into the lent buffer, stores the length printed and answers 0; or answers the
+// number of the refusal and leaves the buffer and the length as they are.
 #[no_mangle]
-pub extern "C" fn shareout_text(text: &[u8], buffer: &mut [u8], number: &mut u8) -> usize
-    ensures length { λ r. ⌜ r ≡ lengthOf (shareOut (now (text .entry)) (length (now (buffer .entry)))) ⌝ }
-    ensures buffer { λ r. ⌜ now (buffer .exit) ≡ bufferAfter (shareOut (now (text .entry)) (length (now (buffer .entry)))) (now (buffer .entry)) ⌝ }
-    ensures number { λ r. ⌜ now (number .exit) ≡ numberOf (shareOut (now (text .entry)) (length (now (buffer .entry)))) ⌝ }
+pub extern "C" fn shareout_text(text: &[u8], buffer: &mut [u8], length: &mut usize) -> u8
+    ensures number { λ r. ⌜ r ≡ numberOf (shareOut (now (text .entry)) (ListN.length (now (buffer .entry)))) ⌝ }
+    ensures buffer { λ _. ⌜ now (buffer .exit) ≡ after filled (shareOut (now (text .entry)) (ListN.length (now (buffer .entry)))) (now (buffer .entry)) ⌝ }
+    ensures length { λ _. ⌜ now (length .exit) ≡ after lengthStored (shareOut (now (text .entry)) (ListN.length (now (buffer .entry)))) (now (length .entry)) ⌝ }
 {
-    let answer = whole::share_out(text, buffer);
+    let answer = sheet_to_division::share_out(text, buffer);
     match answer {
-        Answer::Refused(reason) => {
-            *number = reason;
-            0
-        }
+        Answer::Refused(number) => number,
         Answer::Printed(printed) => {
-            *number = 0;
-            printed
+            *length = printed;
+            0
         }
     }
 }

@@ -1,4 +1,4 @@
-// Runs the whole box on the sample sheets of document 01: for each, its name and what the program prints.
+// Divides the sample sheets of document 01: for each, its name and what the program prints.
 use libc::STDOUT_FILENO;
 use printing::Answer;
 use sheet::Sheet;
@@ -114,7 +114,7 @@ fn print(text: &[u8]) {
 fn show(name: &[u8], text: &[u8]) {
     print(name);
     let mut buffer = [0u8; printing::LONGEST];
-    let answer = whole::share_out(text, &mut buffer);
+    let answer = sheet_to_division::share_out(text, &mut buffer);
     match answer {
         Answer::Refused(number) => refuse(number),
         Answer::Printed(length) => print(&buffer[..length]),

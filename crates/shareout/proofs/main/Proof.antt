@@ -1,7 +1,7 @@
 -- `shareout::main` is safe and ends: what was printed lies within the buffer. Assumes nothing beyond the kit's input and output.
 use lib.ListN.{take, replicate}
 use Rattle.printing.specs.Printing.{longestPrinted}
-use Rattle.whole.proofs.Fits.{printed-front}
+use Rattle.sheet_to_division.proofs.Room.{printed-front}
 use borrow.Author.Needs.{needs}
 use Rattle.shareout.proofs.main.Statement.{statement}
 use Rattle.shareout.proofs.main.Tie as tie

@@ -1,7 +1,7 @@
--- `shareout_c::shareout_text` meets its contract, by what `whole::share_out` ensures and the case of its answer. Assumes nothing.
+-- `shareout_c::shareout_text` meets its contract, by what `share_out` ensures and the case of its answer. Assumes nothing.
 use mathlib.Core.Path.{sym, _∙_}
 use lib.ListN.{length}
-use Rattle.whole.specs.ShareOut.{shareOut}
+use Rattle.sheet_to_division.specs.ShareOut.{shareOut}
 use Rattle.shareout_c.proofs.Lent.{lent-refused, lent-printed}
 use borrow.Author.Needs.{needs}
 use Rattle.shareout_c.proofs.shareout_text.Statement.{statement}
@@ -21,20 +21,22 @@ same-length c = search needs
 
 returns : tie.Need-returns
 returns c =
-    let s = c .before .before .before .before .before in
-    let a = s .before .before .before .before .args in
-    let told = lent-refused (shareOut (a .text .now) (length (a .buffer .now))) (c .before .answer .given .0 .0) (sym (s .share-out .ensures .0) ∙ c .before .answer .given .1) in
-    (told .0, (s .share-out .ensures .1, told .1))
+    let at-answer = c .before in
+    let at-call = at-answer .before .before .before .before in
+    let a = at-call .before .before .before .before .args in
+    let told = lent-refused (shareOut (a .text .now) (length (a .buffer .now))) (at-answer .answer .given .0 .0) (a .length .now) (sym (at-call .share-out .ensures .0) ∙ at-answer .answer .given .1) in
+    (told .0, (at-call .share-out .ensures .1, told .1))
 
 same-length-2 : tie.Need-same-length-2
 same-length-2 c = search needs
 
 returns-2 : tie.Need-returns-2
 returns-2 c =
-    let s = c .before .before .before .before .before in
-    let a = s .before .before .before .before .args in
-    let told = lent-printed (shareOut (a .text .now) (length (a .buffer .now))) (c .before .answer2 .given .0 .0) (sym (s .share-out .ensures .0) ∙ c .before .answer2 .given .1) in
-    (told .0, (s .share-out .ensures .1, told .1))
+    let at-answer = c .before in
+    let at-call = at-answer .before .before .before .before in
+    let a = at-call .before .before .before .before .args in
+    let told = lent-printed (shareOut (a .text .now) (length (a .buffer .now))) (at-answer .answer2 .given .0 .0) (a .length .now) (sym (at-call .share-out .ensures .0) ∙ at-answer .answer2 .given .1) in
+    (told .0, (at-call .share-out .ensures .1, told .1))
 
 pub shareout-text-spec : {M : Type 1} → statement M
 shareout-text-spec =

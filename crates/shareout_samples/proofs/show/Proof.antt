@@ -1,7 +1,7 @@
 -- `shareout_samples::show` is safe and ends: what was printed lies within the buffer. Assumes nothing beyond the kit's output.
 use lib.ListN.{replicate}
 use Rattle.printing.specs.Printing.{longestPrinted}
-use Rattle.whole.proofs.Fits.{printed-front}
+use Rattle.sheet_to_division.proofs.Room.{printed-front}
 use borrow.Author.Needs.{needs}
 use Rattle.shareout_samples.proofs.show.Statement.{statement}
 use Rattle.shareout_samples.proofs.show.Tie as tie

@@ -1,0 +1,2 @@
+-- What the text of a sheet gets: reading, dividing and printing, one after the other.
+pub mod ShareOut

@@ -1,0 +1,26 @@
+// From a sheet to its division: the text of a sheet in, the text of its division out.
+ghost use mathlib.Core.Path.{_≡_};
+ghost use lib.ListN.{length};
+ghost use Rattle.sheet.specs.Answers.{after};
+ghost use Rattle.writing.specs.Filled.{filled};
+ghost use Rattle.printing.specs.Printing.{answered};
+ghost use Rattle.sheet_to_division.specs.ShareOut.{shareOut};
+use printing::Answer;
+
+// Prints the division of the sheet that `text` holds into the lent buffer and answers the length printed, or answers the number of
+// the first reason to turn the sheet down and leaves the buffer as it is.
+pub fn share_out(text: &[u8], buffer: &mut [u8]) -> Answer
+    ensures answer { λ r. ⌜ r ≡ answered (shareOut (now (text .entry)) (length (now (buffer .entry)))) ⌝ }
+    ensures buffer { λ _. ⌜ now (buffer .exit) ≡ after filled (shareOut (now (text .entry)) (length (now (buffer .entry)))) (now (buffer .entry)) ⌝ }
+{
+    let found = reading::read(text);
+    let answer = found.answer;
+    match answer {
+        reading::Answer::Refused(number) => Answer::Refused(number),
+        reading::Answer::Accepted(sheet) => {
+            let rows = found.rows;
+            let table = reading::table(rows);
+            printing::print_division(table, sheet.agents, sheet.items, buffer)
+        }
+    }
+}
