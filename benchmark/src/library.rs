@@ -6,8 +6,13 @@ use crate::cut::{Cut, Row, MOST_ITEMS};
 extern "C" {
     /// Twelve marks, the set of pieces (bit k - 1 for piece k), the number of piles; writes the share
     /// and, for each piece of the set in rising order, its pile from 1. Answers 0 or the refusal's number.
-    fn cut_row(marks: *const u16, set: u16, bundles: u8, share: *mut u64, partition: *mut u8)
-        -> u8;
+    fn cut_row(
+        marks: *const u16,
+        set: u16,
+        bundles: usize,
+        share: *mut u64,
+        partition: *mut u8,
+    ) -> u8;
 }
 
 /// Cuts all twelve pieces.
@@ -15,9 +20,8 @@ pub fn cut(row: &Row, bundles: usize) -> Cut {
     let mut cut = Cut { share: 0, layout: [0; MOST_ITEMS] };
     let all = (1 << MOST_ITEMS) - 1;
     // SAFETY: the pointers are those of twelve marks, one share and twelve places.
-    let refusal = unsafe {
-        cut_row(row.as_ptr(), all, bundles as u8, &mut cut.share, cut.layout.as_mut_ptr())
-    };
+    let refusal =
+        unsafe { cut_row(row.as_ptr(), all, bundles, &mut cut.share, cut.layout.as_mut_ptr()) };
     assert_eq!(refusal, 0, "the library refuses {row:?} in {bundles} piles");
     cut
 }
@@ -35,10 +39,10 @@ mod division {
         /// and the cutters from 1. Answers 0 or the refusal's number.
         fn divide_table(
             marks: *const u16,
-            yards: u8,
-            pieces: u8,
+            agents: usize,
+            items: usize,
             grade: *mut u8,
-            piles: *mut u16,
+            bundles: *mut u16,
             cutters: *mut u8,
         ) -> u8;
     }
@@ -47,13 +51,12 @@ mod division {
     pub fn divide(table: &Table) -> Division {
         let mut division =
             Division { grade: 0, bundles: [0; MOST_AGENTS], cutters: [0; MOST_AGENTS] };
-        let (yards, pieces) = (table.len() as u8, table[0].len() as u8);
         // SAFETY: the pointers are those of 72 marks in a row, one grade, six sets and six places.
         let refusal = unsafe {
             divide_table(
                 table.as_flattened().as_ptr(),
-                yards,
-                pieces,
+                table.len(),
+                table[0].len(),
                 &mut division.grade,
                 division.bundles.as_mut_ptr(),
                 division.cutters.as_mut_ptr(),

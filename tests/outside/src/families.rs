@@ -2,6 +2,7 @@
 
 use crate::generator::Generator;
 use crate::limits::GREATEST_MARK;
+use crate::piles::{even_row, size, wanting, PILE_WORTH};
 
 type Marks = Vec<Vec<u64>>;
 type Family = fn(&mut Generator, usize, usize) -> Marks;
@@ -17,11 +18,11 @@ pub const FAMILIES: [(&str, Family); 12] = [
     ("marks at the limit", at_the_limit),
     ("proportional rows", proportional_rows),
     ("each yard alone in valuing one piece", own_piece),
-    ("yards that value chosen piles", chosen_piles),
-    ("tied waiting sets", tied_waiting_sets),
+    ("yards that want chosen piles", chosen_piles),
+    ("one yard served in each round", one_served),
 ];
 
-fn row(pieces: usize, mark: impl FnMut(usize) -> u64) -> Vec<u64> {
+fn row<T>(pieces: usize, mark: impl FnMut(usize) -> T) -> Vec<T> {
     (0..pieces).map(mark).collect()
 }
 
@@ -54,7 +55,7 @@ fn permuted_rows(generator: &mut Generator, yards: usize, pieces: usize) -> Mark
     let bound = generator.choose(&[5, 50, GREATEST_MARK]);
     let mut base = row(pieces, |_| generator.between(0, bound));
     let mut shuffled = |_| {
-        (1..pieces).for_each(|place| base.swap(place, generator.index(place + 1)));
+        generator.shuffle(&mut base);
         base.clone()
     };
     (0..yards).map(&mut shuffled).collect()
@@ -118,42 +119,33 @@ fn own_piece(generator: &mut Generator, yards: usize, pieces: usize) -> Marks {
 }
 
 /// Several rounds with some yards waiting: yard 1 parts the pieces into piles chosen at random, and
-/// each other yard values the largest pile, two piles, or any number of piles.
+/// each other yard wants the largest pile, two piles, or any number of piles.
 fn chosen_piles(generator: &mut Generator, yards: usize, pieces: usize) -> Marks {
-    let pile_of: Vec<usize> = (0..pieces).map(|_| generator.index(yards)).collect();
-    let size = |pile: usize| pile_of.iter().filter(|other| **other == pile).count();
-    let largest = 1 << (0..yards).max_by_key(|pile| size(*pile)).unwrap_or(0);
-    let mut valued_by = |_| {
+    let pile_of = row(pieces, |_| generator.index(yards));
+    let largest = 1 << (0..yards).max_by_key(|pile| size(&pile_of, *pile)).unwrap_or(0);
+    let mut wanted_by = |_| {
         let pair = 1 << generator.index(yards) | 1 << generator.index(yards);
         let any = generator.index(1 << yards);
         generator.choose(&[largest, largest, pair, pair, any])
     };
-    let valued: Vec<usize> = (0..yards).map(&mut valued_by).collect();
-    valuing_piles(generator, &pile_of, &valued)
+    let wanted: Vec<usize> = (1..yards).map(&mut wanted_by).collect();
+    wanting(generator, &pile_of, &wanted)
 }
 
-/// Several largest waiting sets: two yards value pile 1 only, two others value two further piles each.
-fn tied_waiting_sets(generator: &mut Generator, yards: usize, pieces: usize) -> Marks {
-    let in_first = pieces.saturating_sub(2 * yards - 2).max(3);
-    let pile_of: Vec<usize> =
-        (0..pieces).map(|piece| (piece + 2).saturating_sub(in_first) / 2 % yards).collect();
-    let mut wanted = [0b000001, 0b000001, 0b000110, 0b011000, 0b111111];
-    (1..wanted.len()).for_each(|place| wanted.swap(place, generator.index(place + 1)));
-    let valued: Vec<usize> = (0..yards).map(|yard| wanted[yard % wanted.len()]).collect();
-    valuing_piles(generator, &pile_of, &valued)
-}
-
-/// Yard 1 finds all these piles equal. Every other yard finds each piece of the piles that it values
-/// worth its share, more or less, and each other pile, taken whole, too little to suit.
-fn valuing_piles(generator: &mut Generator, pile_of: &[usize], valued: &[usize]) -> Marks {
-    let size = |pile: usize| pile_of.iter().filter(|other| **other == pile).count() as u64;
-    let too_little = generator.choose(&[50, 60, 70]);
+/// As many rounds as yards, if there are enough pieces: yard k finds piece k, and piles of the
+/// pieces after it, equal, and the pieces before it worthless. The pieces are then permuted.
+fn one_served(generator: &mut Generator, yards: usize, pieces: usize) -> Marks {
+    let mut order: Vec<usize> = (0..pieces).collect();
+    generator.shuffle(&mut order);
     let mut marks_of = |yard: usize| {
-        row(pile_of.len(), |piece| match valued[yard] >> pile_of[piece] & 1 {
-            _ if yard == 0 => 27_720 / size(pile_of[piece]),
-            1 => generator.between(100, 110),
-            _ => too_little / size(pile_of[piece]),
+        let piles_after = (yards - yard - 1).max(1);
+        let pile_of = row(pieces.saturating_sub(yard + 1), |_| generator.index(piles_after));
+        let after = even_row(&pile_of);
+        row(pieces, |piece| match order[piece].checked_sub(yard) {
+            None => 0,
+            Some(0) => PILE_WORTH,
+            Some(place) => after[place - 1],
         })
     };
-    (0..valued.len()).map(&mut marks_of).collect()
+    (0..yards).map(&mut marks_of).collect()
 }

@@ -34,4 +34,9 @@ impl Generator {
     pub fn choose<T: Copy>(&mut self, list: &[T]) -> T {
         list[self.index(list.len())]
     }
+
+    /// Puts the list in an order of its own.
+    pub fn shuffle<T>(&mut self, list: &mut [T]) {
+        (1..list.len()).for_each(|place| list.swap(place, self.index(place + 1)));
+    }
 }

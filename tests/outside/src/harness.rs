@@ -1,44 +1,34 @@
-//! Holds an entry of the library against the solver, one text at a time: the answer, and every byte
-//! of the lent buffer and of the memory on both sides of it.
+//! Holds an entry of the library against the solver, one text at a time: the answer, the lent length,
+//! and every byte of the lent buffer and of the memory on both sides of it.
 
-use std::process::ExitCode;
-
-use crate::division::{divide, Division};
-use crate::limits::MOST_YARDS;
+use crate::kinds::Kinds;
+use crate::met::Met;
 use crate::printer::print;
-use crate::promise::keeps_promise;
 use crate::reader::read;
 
-/// Text and lent buffer; the answer is the printed length, or minus the refusal's number.
-pub type Entry<'a> = &'a dyn Fn(&[u8], &mut [u8]) -> i64;
+/// Text, lent buffer and lent length; answers the refusal's number, or 0 with the printed length stored.
+pub type Entry<'a> = &'a dyn Fn(&[u8], &mut [u8], &mut usize) -> u8;
+
+/// The refusal's number or 0, and what the lent length and the memory about the buffer hold.
+#[derive(Clone, PartialEq)]
+struct Answer {
+    number: u8,
+    length: usize,
+    memory: Vec<u8>,
+}
 
 /// The printed division of the greatest sheet is shorter than this.
 const LARGE_BUFFER: usize = 2_048;
 const MARGIN: usize = 64;
-
-/// The end of a comparison: 0 without a difference, else the first one and 1.
-pub fn verdict(result: Result<(), String>) -> ExitCode {
-    match result {
-        Ok(()) => {
-            println!("not one difference");
-            ExitCode::SUCCESS
-        }
-        Err(difference) => {
-            println!("{difference}");
-            ExitCode::FAILURE
-        }
-    }
-}
+/// What the lent length holds before a call: no printed text is as long.
+const UNPRINTED_LENGTH: usize = 7_777_777;
 
 #[derive(Default)]
 pub struct Counts {
     pub texts: usize,
     pub calls: usize,
-    pub accepted: usize,
-    pub grades: [usize; 5],
-    pub rounds: [usize; MOST_YARDS + 1],
-    pub refusals: [usize; 11],
-    pub tied_waiting_sets: usize,
+    pub met: Met,
+    pub kinds: Kinds,
 }
 
 /// Which buffers to lend: a large one, or also one that just fits, some too short, and an empty one.
@@ -72,29 +62,18 @@ impl<'a> Harness<'a> {
         Ok(())
     }
 
-    /// The solver's answer, counted; its divisions must keep the promise.
+    /// The solver's answer, counted.
     fn solve(&mut self, text: &[u8]) -> Result<Result<Vec<u8>, u8>, String> {
         self.counts.texts += 1;
         let sheet = match read(text) {
             Ok(sheet) => sheet,
             Err(refusal) => {
-                self.counts.refusals[refusal as usize] += 1;
+                self.counts.kinds.count("refusal", refusal as usize);
                 return Ok(Err(refusal));
             }
         };
-        let division = divide(&sheet);
-        self.count(&division);
-        if !keeps_promise(&sheet, &division) {
-            return Err(format!("the solver's division breaks the promise\n{}", shown(text)));
-        }
+        let division = self.counts.met.divide(&sheet)?;
         Ok(Ok(print(&sheet, &division)))
-    }
-
-    fn count(&mut self, division: &Division) {
-        self.counts.accepted += 1;
-        self.counts.grades[division.grade as usize] += 1;
-        self.counts.rounds[division.cutters.len()] += 1;
-        self.counts.tied_waiting_sets += usize::from(division.tied_waiting_sets > 0);
     }
 
     /// One call of the entry with a lent buffer of this length.
@@ -104,26 +83,36 @@ impl<'a> Harness<'a> {
         solution: &Result<Vec<u8>, u8>,
         lent: usize,
     ) -> Result<(), String> {
-        let before: Vec<u8> = (0..lent + 2 * MARGIN).map(unprinted_byte).collect();
-        let mut due_memory = before.clone();
-        let due = match solution {
-            Err(refusal) => -i64::from(*refusal),
-            Ok(printed) if printed.len() > lent => {
-                self.counts.refusals[10] += 1;
-                -10
-            }
-            Ok(printed) => {
-                due_memory[MARGIN..MARGIN + printed.len()].copy_from_slice(printed);
-                printed.len() as i64
-            }
+        let before = Answer {
+            number: 0,
+            length: UNPRINTED_LENGTH,
+            memory: (0..lent + 2 * MARGIN).map(unprinted_byte).collect(),
         };
-        let mut memory = before;
-        let answer = (self.entry)(text, &mut memory[MARGIN..MARGIN + lent]);
-        self.counts.calls += 1;
-        if answer == due && memory == due_memory {
-            return Ok(());
+        let due = due(before.clone(), solution, lent);
+        if solution.is_ok() && due.number == 10 {
+            self.counts.kinds.count("refusal", 10);
         }
-        Err(difference(text, lent, (due, &due_memory), (answer, &memory)))
+        let mut came = before;
+        let buffer = &mut came.memory[MARGIN..MARGIN + lent];
+        came.number = (self.entry)(text, buffer, &mut came.length);
+        self.counts.calls += 1;
+        match came == due {
+            true => Ok(()),
+            false => Err(difference(text, lent, &due, &came)),
+        }
+    }
+}
+
+/// A refusal keeps what was there before; a printed text stands at the buffer's front.
+fn due(before: Answer, solution: &Result<Vec<u8>, u8>, lent: usize) -> Answer {
+    match solution {
+        Err(refusal) => Answer { number: *refusal, ..before },
+        Ok(printed) if printed.len() > lent => Answer { number: 10, ..before },
+        Ok(printed) => {
+            let mut due = Answer { length: printed.len(), ..before };
+            due.memory[MARGIN..MARGIN + printed.len()].copy_from_slice(printed);
+            due
+        }
     }
 }
 
@@ -144,57 +133,68 @@ fn written(memory: &[u8]) -> &[u8] {
     &memory[MARGIN.min(end)..end]
 }
 
-fn difference(text: &[u8], lent: usize, due: (i64, &[u8]), came: (i64, &[u8])) -> String {
-    let other = (0..due.1.len()).find(|place| due.1[*place] != came.1[*place]);
+fn difference(text: &[u8], lent: usize, due: &Answer, came: &Answer) -> String {
+    let other = (0..due.memory.len()).find(|place| due.memory[*place] != came.memory[*place]);
     let place = other.map_or("none".to_owned(), |place| (place as i64 - MARGIN as i64).to_string());
     format!(
         "a difference\n--- text of {} bytes\n{}\n--- lent buffer of {lent} bytes\n\
-         --- answer due {}, came {}\n--- first other byte of the buffer: {place}\n\
+         --- answer due {}, came {}\n--- length due {}, came {}\n\
+         --- first other byte of the buffer: {place}\n\
          --- bytes due\n{}\n--- bytes that came\n{}",
         text.len(),
         shown(text),
-        due.0,
-        came.0,
-        shown(written(due.1)),
-        shown(written(came.1)),
+        due.number,
+        came.number,
+        due.length,
+        came.length,
+        shown(written(&due.memory)),
+        shown(written(&came.memory)),
     )
 }
 
 #[cfg(test)]
 mod tests {
-    use super::{Buffers, Harness};
+    use super::{Buffers, Entry, Harness};
     use crate::printer::shareout;
-    use crate::samples::{sheet, texts_of_j, TABLES};
-    use crate::tables::strict_text;
+    use crate::samples::{texts_of_j, SHEETS};
 
     /// Answers as the library should.
-    fn right(text: &[u8], buffer: &mut [u8]) -> i64 {
+    fn right(text: &[u8], buffer: &mut [u8], length: &mut usize) -> u8 {
         match shareout(text) {
-            Err(refusal) => -i64::from(refusal),
-            Ok(printed) if printed.len() > buffer.len() => -10,
+            Err(refusal) => refusal,
+            Ok(printed) if printed.len() > buffer.len() => 10,
             Ok(printed) => {
                 buffer[..printed.len()].copy_from_slice(&printed);
-                printed.len() as i64
+                *length = printed.len();
+                0
             }
         }
     }
 
-    fn samples_pass(entry: &dyn Fn(&[u8], &mut [u8]) -> i64) -> bool {
+    fn samples_pass(entry: Entry) -> bool {
         let mut harness = Harness::new(entry);
-        let sheets = TABLES.iter().map(|(_, rows, _)| strict_text(&sheet(rows)));
+        let sheets = SHEETS.iter().map(|(_, text, _)| text.as_bytes().to_vec());
         let mut texts = sheets.chain(texts_of_j().into_iter().map(|(text, _)| text));
         texts.all(|text| harness.check(&text, Buffers::Several).is_ok())
     }
 
-    /// Does as the library should, and then alters one byte if the answer is of this kind.
-    fn altered(kind: fn(i64) -> bool, place: fn(i64) -> usize) -> impl Fn(&[u8], &mut [u8]) -> i64 {
-        move |text, buffer| {
-            let answer = right(text, buffer);
-            if let (true, Some(byte)) = (kind(answer), buffer.get_mut(place(answer))) {
-                *byte = 0;
+    /// Does as the library should, and then makes a change if the answer is this one.
+    fn altered(
+        answer: u8,
+        change: fn(&mut [u8], &mut usize),
+    ) -> impl Fn(&[u8], &mut [u8], &mut usize) -> u8 {
+        move |text, buffer, length| {
+            let number = right(text, buffer, length);
+            if number == answer {
+                change(buffer, length);
             }
-            answer
+            number
         }
+    }
+
+    /// Sets the byte at this place, if there is one.
+    fn set_byte(buffer: &mut [u8], place: usize) {
+        buffer.iter_mut().skip(place).take(1).for_each(|byte| *byte = 0);
     }
 
     #[test]
@@ -204,24 +204,35 @@ mod tests {
 
     #[test]
     fn altered_bytes_are_found() {
-        assert!(!samples_pass(&altered(|answer| answer > 0, |answer| answer as usize)));
-        assert!(!samples_pass(&altered(|answer| answer > 0, |_| 0)));
-        assert!(!samples_pass(&altered(|answer| answer == -10, |_| 0)));
-        assert!(!samples_pass(&altered(|answer| answer == -8, |_| 2_047)));
+        assert!(!samples_pass(&altered(0, |buffer, length| set_byte(buffer, *length))));
+        assert!(!samples_pass(&altered(0, |buffer, _| set_byte(buffer, 0))));
+        assert!(!samples_pass(&altered(10, |buffer, _| set_byte(buffer, 0))));
+        assert!(!samples_pass(&altered(8, |buffer, _| set_byte(buffer, 2_047))));
+    }
+
+    #[test]
+    fn altered_lengths_are_found() {
+        assert!(!samples_pass(&altered(0, |_, length| *length += 1)));
+        for refusal in [1, 4, 5, 6, 8, 10] {
+            assert!(!samples_pass(&altered(refusal, |_, length| *length = 0)), "{refusal}");
+        }
+        assert!(samples_pass(&altered(9, |_, length| *length = 0)));
     }
 
     #[test]
     fn wrong_answers_are_found() {
-        let replacing = |old: i64, new: i64| {
-            move |text: &[u8], buffer: &mut [u8]| match right(text, buffer) {
-                answer if answer == old => new,
-                answer => answer,
+        let replacing = |old: u8, new: u8| {
+            move |text: &[u8], buffer: &mut [u8], length: &mut usize| match right(
+                text, buffer, length,
+            ) {
+                number if number == old => new,
+                number => number,
             }
         };
         for refusal in [1, 4, 5, 6, 8, 10] {
-            assert!(!samples_pass(&replacing(-refusal, -9)), "{refusal}");
+            assert!(!samples_pass(&replacing(refusal, 9)), "{refusal}");
         }
-        assert!(samples_pass(&replacing(-9, 0)));
-        assert!(!samples_pass(&|_: &[u8], _: &mut [u8]| -3));
+        assert!(samples_pass(&replacing(9, 0)));
+        assert!(!samples_pass(&|_: &[u8], _: &mut [u8], _: &mut usize| 3));
     }
 }

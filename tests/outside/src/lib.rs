@@ -1,16 +1,27 @@
-//! A solver for document 01 that shares no code and no method with the library it is held against.
+//! A solver for document 01 that shares no code with the library it is held against and finds shares,
+//! cuts, waiting sets and servings by other methods.
 //! Yards (agents) and pieces (items) are counted from 0 inside, and from 1 in texts.
 
+pub mod cuts;
 pub mod damage;
 pub mod division;
+pub mod divisions;
 pub mod families;
 pub mod generator;
 pub mod harness;
+pub mod kinds;
 pub mod limits;
+pub mod met;
+pub mod piles;
 pub mod printer;
 pub mod promise;
+pub mod ratio;
 pub mod reader;
 pub mod run;
 pub mod samples;
+pub mod serving;
+pub mod sets;
 pub mod share;
 pub mod tables;
+pub mod ties;
+pub mod verdict;

@@ -57,29 +57,28 @@ fn numbers(list: &[usize]) -> String {
 #[cfg(test)]
 mod tests {
     use super::shareout;
+    use crate::samples::{SHEETS, SHEET_A};
 
-    fn printed(text: &str) -> String {
+    fn printed(sample: &str) -> String {
+        let (_, text, _) = SHEETS.into_iter().find(|(name, _, _)| *name == sample).unwrap();
         String::from_utf8(shareout(text.as_bytes()).unwrap()).unwrap()
     }
 
     #[test]
-    fn sample_a() {
-        let sheet =
-            "(sheet (yards 2) (pieces 3))\n(yard 1 (marks 5 3 4))\n(yard 2 (marks 6 2 2))\n(end)\n";
-        let division = "(division (yards 2) (pieces 3) (grade 3))\n\
-            (yard 1 (pile 1) (worth 5) (share 5) (cut (1) (2 3)))\n\
-            (yard 2 (pile 2 3) (worth 4) (share 4) (cut (1) (2 3)))\n\
-            (cutters 1)\n(end)\n";
-        assert_eq!(printed(sheet), division);
+    fn the_readme_shows_sample_a_and_its_division() {
+        let shown = |text: &str| {
+            include_str!("../../../README.md").contains(&format!("\n```\n{text}```\n"))
+        };
+        assert!(shown(SHEET_A));
+        assert!(shown(&printed("a")));
     }
 
     #[test]
     fn empty_piles() {
-        let sheet = "(sheet (yards 2) (pieces 1))\n(yard 1 (marks 7))\n(yard 2 (marks 9))\n(end)\n";
         let division = "(division (yards 2) (pieces 1) (grade 3))\n\
             (yard 1 (pile 1) (worth 7) (share 0) (cut (1) ()))\n\
             (yard 2 (pile) (worth 0) (share 0) (cut (1) ()))\n\
             (cutters 1)\n(end)\n";
-        assert_eq!(printed(sheet), division);
+        assert_eq!(printed("e"), division);
     }
 }

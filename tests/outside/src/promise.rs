@@ -1,7 +1,8 @@
 //! What a division promises, checked from the marks: every piece in exactly one pile, and every
-//! pile worth at least 2K / (3K - 1) of its yard's maximin share, K the largest odd number up to N.
+//! pile worth at least top / bottom of its yard's maximin share.
 
 use crate::division::{worth, Division};
+use crate::ratio::top_and_bottom;
 use crate::reader::Sheet;
 
 pub fn keeps_promise(sheet: &Sheet, division: &Division) -> bool {
@@ -13,7 +14,7 @@ pub fn keeps_promise(sheet: &Sheet, division: &Division) -> bool {
 }
 
 fn holds_its_part(sheet: &Sheet, division: &Division, agent: usize) -> bool {
-    let k = if sheet.yards % 2 == 1 { sheet.yards } else { sheet.yards - 1 } as u64;
-    let worth = worth(&sheet.marks[agent], &division.bundles[agent]);
-    (3 * k - 1) * worth >= 2 * k * division.cuts[agent].share
+    let (top, bottom) = top_and_bottom(sheet.yards);
+    bottom * worth(&sheet.marks[agent], &division.bundles[agent])
+        >= top * division.cuts[agent].share
 }

@@ -10,6 +10,13 @@ pub struct Sheet {
     pub marks: Vec<Vec<u64>>,
 }
 
+impl Sheet {
+    /// The sheet with these rows of marks.
+    pub fn of(marks: Vec<Vec<u64>>) -> Sheet {
+        Sheet { yards: marks.len(), pieces: marks[0].len(), marks }
+    }
+}
+
 /// "Each is looked for over the whole input before the following one."
 pub fn read(text: &[u8]) -> Result<Sheet, u8> {
     if text.len() > LONGEST_TEXT {
@@ -79,10 +86,7 @@ fn number(word: &[u8], most_digits: usize) -> Option<u64> {
 #[cfg(test)]
 mod tests {
     use super::read;
-    use crate::samples::texts_of_j;
-
-    const SHEET_A: &str =
-        "(sheet (yards 2) (pieces 3))\n(yard 1 (marks 5 3 4))\n(yard 2 (marks 6 2 2))\n(end)\n";
+    use crate::samples::{texts_of_j, SHEET_A};
 
     fn refusal(text: &str) -> u8 {
         read(text.as_bytes()).err().unwrap_or(0)

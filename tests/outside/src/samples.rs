@@ -1,29 +1,29 @@
-//! The sample sheets of document 01.
+//! The sample sheets of document 01, read from the folder `samples`.
 
 use crate::limits::LONGEST_TEXT;
 use crate::reader::Sheet;
 use crate::tables::strict_text;
 
-const ROW_G: &[u64] = &[1, 2, 3, 4, 5, 6, 7];
-const ROW_H: &[u64] = &[2, 2, 2, 2];
-
-/// Name, rows of marks, and the document's figures where it gives all: shares, piles, cutters, grade.
-pub const TABLES: [(&str, &[&[u64]], &str); 9] = [
-    ("a", &[&[5, 3, 4], &[6, 2, 2]], "[5, 4] [[1], [2, 3]] [1] 3"),
-    ("b", &[&[1; 4], &[6, 6, 3, 3], &[2; 4]], "[1, 6, 2] [[3], [1, 2], [4]] [1, 2] 2"),
-    ("c", &[&[1; 4], &[4, 4, 3, 1], &[1; 4]], "[1, 4, 1] [[1, 2], [3], [4]] [1] 4"),
-    ("d", &[&[1; 4], &[8, 8, 5, 3], &[1; 4]], "[1, 8, 1] [[3], [1, 2], [4]] [1, 2] 2"),
-    ("e", &[&[7], &[9]], "[0, 0] [[1], []] [1] 3"),
-    ("f", &[&[0, 0], &[0, 0]], "[0, 0] [[1, 2], []] [1] 1"),
-    ("g as three equal rows", &[ROW_G; 3], ""),
-    ("h as two equal rows", &[ROW_H; 2], ""),
-    ("i", &[&[3, 0, 9]], "[12] [[1, 2, 3]] [1] 1"),
-];
-
-pub fn sheet(rows: &[&[u64]]) -> Sheet {
-    let marks = rows.iter().map(|row| row.to_vec()).collect();
-    Sheet { yards: rows.len(), pieces: rows[0].len(), marks }
+macro_rules! sample {
+    ($name:literal) => {
+        include_str!(concat!("../../../samples/", $name, ".sheet"))
+    };
 }
+
+pub const SHEET_A: &str = sample!("a");
+
+/// Name, text, and the document's figures where it gives all: shares, piles, cutters, grade.
+pub const SHEETS: [(&str, &str, &str); 9] = [
+    ("a", SHEET_A, "[5, 4] [[1], [2, 3]] [1] 3"),
+    ("b", sample!("b"), "[1, 6, 2] [[3], [1, 2], [4]] [1, 2] 2"),
+    ("c", sample!("c"), "[1, 4, 1] [[1, 2], [3], [4]] [1] 4"),
+    ("d", sample!("d"), "[1, 8, 1] [[3], [1, 2], [4]] [1, 2] 2"),
+    ("e", sample!("e"), "[0, 0] [[1], []] [1] 3"),
+    ("f", sample!("f"), "[0, 0] [[1, 2], []] [1] 1"),
+    ("g as three equal rows", sample!("g"), ""),
+    ("h as two equal rows", sample!("h"), ""),
+    ("i", sample!("i"), "[12] [[1, 2, 3]] [1] 1"),
+];
 
 /// The texts of sample j, each with its refusal's number, or 0 if it passes.
 pub fn texts_of_j() -> Vec<(Vec<u8>, u8)> {

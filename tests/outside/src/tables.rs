@@ -1,10 +1,21 @@
-//! The tables to compare on: all small ones, and the random ones of every family and every count of
-//! yards and pieces. Also the strict text of a table.
+//! The tables to compare on: all small ones, the random ones of every family and every count of yards
+//! and pieces, and those with tied waiting sets. Also the strict text of a table.
 
 use crate::families::FAMILIES;
 use crate::generator::Generator;
 use crate::limits::{MOST_PIECES, MOST_YARDS};
 use crate::reader::Sheet;
+use crate::ties;
+
+/// Tables of each family for every count of yards and pieces.
+const OF_EACH_COUNT: usize = 24;
+
+/// The random tables in named parts, one for each family, and one with tied waiting sets.
+pub fn random() -> impl Iterator<Item = (&'static str, Vec<Sheet>)> {
+    let family = |number: usize| (FAMILIES[number].0, of_family(number, OF_EACH_COUNT).collect());
+    let tied = || ("tied waiting sets", ties::tables());
+    (0..FAMILIES.len()).map(family).chain(std::iter::once_with(tied))
+}
 
 /// Every table of up to three yards, three pieces and marks 0 to 2.
 pub fn all_small() -> impl Iterator<Item = Sheet> {
@@ -14,7 +25,7 @@ pub fn all_small() -> impl Iterator<Item = Sheet> {
         (0..3usize.pow(places)).map(move |number| {
             let mark = |place: usize| (number / 3usize.pow(place as u32) % 3) as u64;
             let row = |yard: usize| (0..pieces).map(|piece| mark(yard * pieces + piece)).collect();
-            Sheet { yards, pieces, marks: (0..yards).map(row).collect() }
+            Sheet::of((0..yards).map(row).collect())
         })
     })
 }
@@ -23,10 +34,7 @@ pub fn all_small() -> impl Iterator<Item = Sheet> {
 pub fn of_family(family: usize, each: usize) -> impl Iterator<Item = Sheet> {
     let mut generator = Generator::new(family as u64);
     let counts = (0..each).flat_map(|_| every_count());
-    counts.map(move |(yards, pieces)| {
-        let marks = FAMILIES[family].1(&mut generator, yards, pieces);
-        Sheet { yards, pieces, marks }
-    })
+    counts.map(move |(yards, pieces)| Sheet::of(FAMILIES[family].1(&mut generator, yards, pieces)))
 }
 
 fn every_count() -> impl Iterator<Item = (usize, usize)> {
@@ -38,7 +46,7 @@ pub fn any(generator: &mut Generator) -> Sheet {
     let yards = 1 + generator.index(MOST_YARDS);
     let pieces = 1 + generator.index(MOST_PIECES);
     let family = generator.index(FAMILIES.len());
-    Sheet { yards, pieces, marks: FAMILIES[family].1(generator, yards, pieces) }
+    Sheet::of(FAMILIES[family].1(generator, yards, pieces))
 }
 
 /// The sheet as document 01 lays it out.

@@ -3,34 +3,24 @@
 
 use std::process::ExitCode;
 
-use outside::harness::verdict;
+use outside::verdict::verdict;
 
 #[link(name = "shareout_c", kind = "static")]
 extern "C" {
-    /// The length of the printed text, with 0 for the number; or 0, with the refusal's number.
+    /// Prints the division of the sheet into the buffer. Answers 0 and stores the length printed, or
+    /// answers the refusal's number and stores nothing.
     fn shareout_text(
         text: *const u8,
         text_len: usize,
         buffer: *mut u8,
         buffer_len: usize,
-        number: *mut u8,
-    ) -> usize;
+        length: *mut usize,
+    ) -> u8;
 }
 
-/// The printed length, or minus the refusal's number.
-fn library(text: &[u8], buffer: &mut [u8]) -> i64 {
-    let mut number = u8::MAX;
-    // SAFETY: the pointers are those of two slices, with the slices' lengths, and of one byte.
-    let length = unsafe {
-        shareout_text(text.as_ptr(), text.len(), buffer.as_mut_ptr(), buffer.len(), &mut number)
-    };
-    match number {
-        0 => length as i64,
-        _ => {
-            assert_eq!(length, 0, "a length with the refusal {number}");
-            -i64::from(number)
-        }
-    }
+fn library(text: &[u8], buffer: &mut [u8], length: &mut usize) -> u8 {
+    // SAFETY: the pointers are those of two slices, with the slices' lengths, and of one length.
+    unsafe { shareout_text(text.as_ptr(), text.len(), buffer.as_mut_ptr(), buffer.len(), length) }
 }
 
 fn main() -> ExitCode {

@@ -1,23 +1,33 @@
-//! Prints what the program `reading_samples` should print: a line for each text, with the answer of the reader of this package.
-use outside::reader;
+//! Prints what the program `reading_samples` should print: a line for each text, with the answer of
+//! the reader of this package.
 
-const SHEET_A: &str = "(sheet (yards 2) (pieces 3))\n(yard 1 (marks 5 3 4))\n(yard 2 (marks 6 2 2))\n(end)\n";
+use outside::limits::{GREATEST_MARK, MOST_PIECES, MOST_YARDS};
+use outside::reader::{read, Sheet};
+use outside::samples::SHEET_A;
+use outside::tables::strict_text;
 
 fn main() {
     samples();
-    for count in ["0", "1", "6", "7", "12", "13", "999", "1000", "06", "00", "006", "0006", "", " 6", "+6", "-6", "6a"] {
+    for count in [
+        "0", "1", "6", "7", "12", "13", "999", "1000", "06", "00", "006", "0006", "", " 6", "+6",
+        "-6", "6a",
+    ] {
         yards(count);
     }
-    for count in ["0", "1", "6", "7", "12", "13", "999", "1000", "012", "00", "0012", "", "12 ", "1 2", "x"] {
+    for count in
+        ["0", "1", "6", "7", "12", "13", "999", "1000", "012", "00", "0012", "", "12 ", "1 2", "x"]
+    {
         pieces(count);
     }
     for mark in [
-        "0", "9", "10", "65534", "65535", "65536", "65537", "70000", "99999", "100000", "131072", "05", "00", "000000", "",
-        "12345678901234567890", "18446744073709551617", "99999999999999999999999999", "-1", "+1", "1.", "1,000", "0x1", "x", "()",
+        "0", "9", "10", "65534", "65535", "65536", "65537", "70000", "99999", "100000", "131072",
+        "05", "00", "000000", "", "12345678901234567890", "18446744073709551617",
+        "99999999999999999999999999", "-1", "+1", "1.", "1,000", "0x1", "x", "()",
     ] {
         marks(mark);
     }
     orders();
+    short();
     heads();
     lines();
     ends();
@@ -31,7 +41,7 @@ fn show(label: &str, text: &[u8]) {
 }
 
 fn answer(text: &[u8]) -> String {
-    match reader::read(text) {
+    match read(text) {
         Err(number) => format!("refused {number}"),
         Ok(sheet) => {
             let mut line = format!("{} x {}", sheet.yards, sheet.pieces);
@@ -48,12 +58,8 @@ fn answer(text: &[u8]) -> String {
 
 fn samples() {
     show("sheet a", SHEET_A.as_bytes());
-    let mut largest = String::from("(sheet (yards 6) (pieces 12))\n");
-    for yard in 1..=6 {
-        largest.push_str(&format!("(yard {yard} (marks{}))\n", " 65535".repeat(12)));
-    }
-    largest.push_str("(end)\n");
-    show("largest sheet", largest.as_bytes());
+    let largest = Sheet::of(vec![vec![GREATEST_MARK; MOST_PIECES]; MOST_YARDS]);
+    show("largest sheet", &strict_text(&largest));
     show("smallest sheet", b"(sheet (yards 1) (pieces 1))\n(yard 1 (marks 0))\n(end)\n");
 }
 
@@ -68,7 +74,9 @@ fn yards(count: &str) {
 
 /// A count of pieces before a yard line of twelve marks.
 fn pieces(count: &str) {
-    let text = format!("(sheet (yards 1) (pieces {count}))\n(yard 1 (marks 1 2 3 4 5 6 7 8 9 10 11 12))\n(end)\n");
+    let text = format!(
+        "(sheet (yards 1) (pieces {count}))\n(yard 1 (marks 1 2 3 4 5 6 7 8 9 10 11 12))\n(end)\n"
+    );
     show(&format!("pieces {count}"), text.as_bytes());
 }
 
@@ -78,24 +86,46 @@ fn marks(mark: &str) {
     show(&format!("mark {mark}"), text.as_bytes());
 }
 
-/// Several reasons at once, of which the first in checking order is the answer, and texts of hardly a byte.
+/// Several reasons at once, of which the first in checking order is the answer.
 fn orders() {
     let head = "(sheet (yards 2) (pieces 1))\n";
     let cases = [
-        ("7 yards and a large mark", "(sheet (yards 7) (pieces 1))\n(yard 1 (marks 70000))\n(end)\n".to_string()),
+        (
+            "7 yards and a large mark",
+            "(sheet (yards 7) (pieces 1))\n(yard 1 (marks 70000))\n(end)\n".to_string(),
+        ),
         ("0 yards and 13 pieces", "(sheet (yards 0) (pieces 13))\n(end)\n".to_string()),
-        ("13 pieces and a malformed line", "(sheet (yards 1) (pieces 13))\n(yard\n(end)\n".to_string()),
-        ("malformed line and no end", "(sheet (yards 1) (pieces 1))\n(yard 1 (marks 05))\n".to_string()),
-        ("large mark, then a malformed line", format!("{head}(yard 1 (marks 70000))\n(yard 2 (marks 05))\n(end)\n")),
+        (
+            "13 pieces and a malformed line",
+            "(sheet (yards 1) (pieces 13))\n(yard\n(end)\n".to_string(),
+        ),
+        (
+            "malformed line and no end",
+            "(sheet (yards 1) (pieces 1))\n(yard 1 (marks 05))\n".to_string(),
+        ),
+        (
+            "large mark, then a malformed line",
+            format!("{head}(yard 1 (marks 70000))\n(yard 2 (marks 05))\n(end)\n"),
+        ),
         ("large mark, then a missing line", format!("{head}(yard 1 (marks 70000))\n(end)\n")),
-        ("large mark, then a long one", format!("{head}(yard 1 (marks 70000))\n(yard 2 (marks 100000))\n(end)\n")),
+        (
+            "large mark, then a long one",
+            format!("{head}(yard 1 (marks 70000))\n(yard 2 (marks 100000))\n(end)\n"),
+        ),
         ("large mark and no end", format!("{head}(yard 1 (marks 70000))\n(yard 2 (marks 1))\n")),
-        ("large mark and text after the end", format!("{head}(yard 1 (marks 1))\n(yard 2 (marks 70000))\n(end)\n\n")),
+        (
+            "large mark and text after the end",
+            format!("{head}(yard 1 (marks 1))\n(yard 2 (marks 70000))\n(end)\n\n"),
+        ),
         ("large mark alone", format!("{head}(yard 1 (marks 1))\n(yard 2 (marks 70000))\n(end)\n")),
     ];
     for (label, text) in cases {
         show(label, text.as_bytes());
     }
+}
+
+/// A head alone, and texts of at most one byte.
+fn short() {
     show("head without its line feed", b"(sheet (yards 1) (pieces 1))");
     show("no byte", b"");
     show("line feed alone", b"\n");
@@ -177,7 +207,12 @@ fn ends() {
 
 /// Texts of 4,096 and 4,097 bytes.
 fn long() {
-    let starts = [("", "nothing"), ("(sheet (yards 0) (pieces 1))\n", "0 yards"), ("(sheet (yards 2) (pieces 3))\n", "a head"), (SHEET_A, "sheet a")];
+    let starts = [
+        ("", "nothing"),
+        ("(sheet (yards 0) (pieces 1))\n", "0 yards"),
+        ("(sheet (yards 2) (pieces 3))\n", "a head"),
+        (SHEET_A, "sheet a"),
+    ];
     for (start, label) in starts {
         for size in 4096..=4097 {
             for (byte, filling) in [(b'\n', "line feeds"), (b' ', "spaces")] {

@@ -1,14 +1,14 @@
-//! Prints what the program `shareout_samples` should print: the answer to each sample sheet of document 01, by the solver of this package.
+//! Prints what the program `shareout_samples` should print: the answer to each sample sheet of
+//! document 01, by the solver of this package.
 
 use std::io::Write;
 
 use outside::printer::shareout;
-use outside::samples::{sheet, texts_of_j, TABLES};
-use outside::tables::strict_text;
+use outside::samples::{texts_of_j, SHEETS};
 
 fn main() -> std::io::Result<()> {
-    for (name, rows, _) in TABLES {
-        show(name, &strict_text(&sheet(rows)))?;
+    for (name, text, _) in SHEETS {
+        show(name, text.as_bytes())?;
     }
     for (text, _) in texts_of_j() {
         show("j", &text)?;

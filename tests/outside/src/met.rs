@@ -1,0 +1,82 @@
+//! The kinds of divisions that a comparison has met, and whether it has met all it must.
+
+use crate::division::{divide, Division};
+use crate::kinds::Kinds;
+use crate::promise::keeps_promise;
+use crate::reader::Sheet;
+use crate::ties;
+
+/// So many divisions must have several largest waiting sets in some round.
+const FEWEST_TIES: usize = 500;
+
+#[derive(Default)]
+pub struct Met {
+    pub divisions: usize,
+    /// Divisions with several largest waiting sets in some round.
+    tied: usize,
+    kinds: Kinds,
+}
+
+impl Met {
+    /// The solver's division, counted; it must keep the promise.
+    pub fn divide(&mut self, sheet: &Sheet) -> Result<Division, String> {
+        let division = divide(sheet);
+        if !keeps_promise(sheet, &division) {
+            return Err(format!("the solver's division breaks the promise: {:?}", sheet.marks));
+        }
+        self.divisions += 1;
+        self.tied += usize::from(!division.tied_rounds.is_empty());
+        self.kinds.count("grade", division.grade as usize);
+        self.kinds.count("rounds", division.cutters.len());
+        for left in &division.tied_rounds {
+            self.kinds.count(&tie_of(sheet.yards), *left);
+        }
+        Ok(division)
+    }
+
+    pub fn print(&self) {
+        println!("divisions {}, with a tie of waiting sets {}", self.divisions, self.tied);
+        self.kinds.print();
+    }
+
+    /// Grades 1 to 4, one to six rounds, and ties, enough and at all their counts of yards.
+    pub fn all_met(&self) -> Result<(), String> {
+        self.kinds.all_met("grade", 1..=4)?;
+        self.kinds.all_met("rounds", 1..=6)?;
+        for (yards, left) in ties::COUNTS {
+            self.kinds.all_met(&tie_of(yards), [left])?;
+        }
+        match self.tied < FEWEST_TIES {
+            true => Err(format!("divisions with a tie of waiting sets: {}", self.tied)),
+            false => Ok(()),
+        }
+    }
+}
+
+/// The name of a tie; its number is the number of yards left in the round.
+fn tie_of(yards: usize) -> String {
+    format!("tie in a sheet of {yards} yards, left")
+}
+
+#[cfg(test)]
+mod tests {
+    use super::Met;
+    use crate::families::FAMILIES;
+    use crate::tables::of_family;
+    use crate::ties;
+
+    #[test]
+    fn few_ties_are_found() {
+        let mut met = Met::default();
+        let result = |met: &Met| met.all_met().err().unwrap_or_default();
+        assert_eq!(result(&met), "never met: grade 1");
+        for (family, _) in FAMILIES.iter().enumerate() {
+            of_family(family, 1).for_each(|table| assert!(met.divide(&table).is_ok()));
+        }
+        assert_eq!(result(&met), "never met: tie in a sheet of 5 yards, left 5");
+        ties::tables().iter().for_each(|table| assert!(met.divide(table).is_ok()));
+        assert_eq!(result(&met), "");
+        met.tied = 499;
+        assert_eq!(result(&met), "divisions with a tie of waiting sets: 499");
+    }
+}
