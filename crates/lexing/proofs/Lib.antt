@@ -1,3 +1,3 @@
--- Laws of the definitions, in folders by what they speak of: lexemes and tokens at places of a text, and what readers read.
-pub mod lexemes
+-- Laws of the definitions, in folders by what they speak of: the tokens of a text and at its places, and what readers read.
+pub mod texts
 pub mod readers

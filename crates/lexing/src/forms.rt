@@ -12,6 +12,7 @@ ghost use Rattle.lexing.specs.internal.Lexed.{bytesOf};
 use crate::numbers;
 use crate::tokens::Cursor;
 use crate::tokens::Token;
+use crate::tokens::ended;
 use crate::tokens::inside;
 use crate::tokens::next_token;
 
@@ -46,7 +47,7 @@ pub fn follow(s: &[u8], c: Cursor, form: &[u8]) -> Followed
 {
     let mut here = inside(s, c);
     let mut there = Cursor::start();
-    while there.at < form.len() {
+    while !ended(form, there) {
         let f = next_token(form, there);
         let t = next_token(s, here);
         if !same_token(s, t, form, f) {

@@ -1,19 +1,19 @@
-// The tokens of a text, one after another, in the strict layout.
+// The tokens of a text, one after another; spaces, remarks and blank lines count for nothing.
 ghost use Prim.Native.Nat.{_≤_, _<_};
 ghost use mathlib.Core.Path.{_≡_};
 ghost use mathlib.Core.Bool.{false};
 ghost use lib.ListN.{length, getD};
-ghost use lib.Dec.{eqb};
-ghost use Rattle.lexing.specs.Tokens.{lineFeed, space, isDelimiter, isWordByte, gapDue};
+ghost use Rattle.lexing.specs.Lines.{semicolon};
+ghost use Rattle.lexing.specs.Tokens.{isWordByte};
 ghost use Rattle.lexing.specs.Forms;
 ghost use Rattle.lexing.specs.Places;
 ghost use Rattle.lexing.specs.Places.{tokensAt};
-ghost use Rattle.lexing.specs.internal.Lexed.{SpacesTo, WordTo, LexemeTo, NextToken};
+ghost use Rattle.lexing.specs.internal.Lexed.{isDelimiter, countsForNothing, RemarkTo, Passed, BlankTo, WordTo, TokenTo, NextToken};
 
-// A place in a text: the next byte to read, and the first byte of the token before it.
+// A place in a text: the next byte to read, and whether its line has begun with a token.
 pub struct Cursor {
     pub at: usize,
-    pub before: u8,
+    pub begun: bool,
 }
 
 // The bytes from `from` to `to`, and the place after them.
@@ -30,7 +30,7 @@ impl Cursor {
     {
         Cursor {
             at: 0,
-            before: b'\n',
+            begun: false,
         }
     }
 }
@@ -42,17 +42,10 @@ pub(crate) fn inside(s: &[u8], c: Cursor) -> Cursor
     if s.len() < c.at {
         return Cursor {
             at: s.len(),
-            before: c.before,
+            begun: c.begun,
         };
     }
     c
-}
-
-// Whether no token is left at the place.
-pub fn ended(s: &[u8], c: Cursor) -> bool
-    ensures { λ r. ⌜ r ≡ Forms.ended (tokensAt (now (s .entry)) c) ⌝ }
-{
-    s.len() <= c.at
 }
 
 // Whether the byte is a token by itself.
@@ -72,38 +65,78 @@ fn is_delimiter(b: u8) -> bool
 fn is_word_byte(b: u8) -> bool
     ensures { λ r. ⌜ r ≡ isWordByte b ⌝ }
 {
-    if b == b' ' { false } else { !is_delimiter(b) }
+    if b == b' ' {
+        return false;
+    }
+    if b == b';' {
+        return false;
+    }
+    !is_delimiter(b)
 }
 
-// The spaces due between two tokens, by their first bytes.
-fn gap_due(before: u8, next: u8) -> usize
-    ensures { λ r. ⌜ r ≡ gapDue before next ⌝ }
+// Whether the byte counts for nothing, on a line that has begun with a token, or not: a space, one that begins a remark, the end of a
+// blank line.
+fn counts_for_nothing(begun: bool, byte: u8) -> bool
+    ensures { λ r. ⌜ r ≡ countsForNothing begun byte ⌝ }
 {
-    if before == b'(' {
-        return 0;
+    if byte == b' ' {
+        return true;
     }
-    if before == b'\n' {
-        return 0;
+    if byte == b';' {
+        return true;
     }
-    if next == b')' {
-        return 0;
-    }
-    if next == b'\n' { 0 } else { 1 }
+    if begun { false } else { byte == b'\n' }
 }
 
-// The first place from `at` on without a space.
-fn skip_spaces(s: &[u8], at: usize) -> usize
-    requires { ⌜ at ≤ length (now s) ⌝ }
-    ensures { λ r. ⌜ SpacesTo (now (s .entry)) at r ⌝ }
+// The end of the remark that begins at `at`: its line feed, or the end of the text.
+fn remark_end(s: &[u8], at: usize) -> usize
+    requires { ⌜ at < length (now s) ⌝ }
+    requires { ⌜ getD (now s) at 0 ≡ semicolon ⌝ }
+    ensures { λ r. ⌜ RemarkTo (now (s .entry)) at r ⌝ }
 {
-    let mut i = at;
+    let mut i = at + 1;
     while i < s.len() {
-        if s[i] != b' ' {
+        if s[i] == b'\n' {
             return i;
         }
         i += 1;
     }
     i
+}
+
+// The place after a byte that counts for nothing, with the remark that it begins.
+fn pass(s: &[u8], at: usize) -> usize
+    requires { ⌜ at < length (now s) ⌝ }
+    ensures { λ r. ⌜ Passed (now (s .entry)) at r ⌝ }
+{
+    if s[at] == b';' {
+        return remark_end(s, at);
+    }
+    at + 1
+}
+
+// The first place from `at` on where a token begins, or the end of the text.
+fn token_start(s: &[u8], at: usize, begun: bool) -> usize
+    requires { ⌜ at ≤ length (now s) ⌝ }
+    ensures { λ r. ⌜ BlankTo (now (s .entry)) begun at r ⌝ }
+{
+    let mut i = at;
+    while i < s.len() {
+        if !counts_for_nothing(begun, s[i]) {
+            return i;
+        }
+        i = pass(s, i);
+    }
+    i
+}
+
+// Whether no token is left at the place.
+pub fn ended(s: &[u8], c: Cursor) -> bool
+    ensures { λ r. ⌜ r ≡ Forms.ended (tokensAt (now (s .entry)) c) ⌝ }
+{
+    let here = inside(s, c);
+    let at = here.at;
+    token_start(s, at, here.begun) == s.len()
 }
 
 // The first place from `from` on without a word byte.
@@ -122,10 +155,10 @@ fn word_end(s: &[u8], from: usize) -> usize
 }
 
 // The end of the token that begins at `from`.
-fn token_end(s: &[u8], from: usize) -> usize
+fn token_end(s: &[u8], begun: bool, from: usize) -> usize
     requires { ⌜ from < length (now s) ⌝ }
-    requires { ⌜ eqb (getD (now s) from lineFeed) space ≡ false ⌝ }
-    ensures { λ r. ⌜ LexemeTo (now (s .entry)) from r ⌝ }
+    requires { ⌜ countsForNothing begun (getD (now s) from 0) ≡ false ⌝ }
+    ensures { λ r. ⌜ TokenTo (now (s .entry)) begun from r ⌝ }
 {
     if is_delimiter(s[from]) {
         from + 1
@@ -134,32 +167,25 @@ fn token_end(s: &[u8], from: usize) -> usize
     }
 }
 
-// The next token, which is empty at the end of the text and where the spaces before it are not those due.
+// The next token, which is empty where none is left.
 pub(crate) fn next_token(s: &[u8], c: Cursor) -> Token
     requires { ⌜ c .at ≤ length (now s) ⌝ }
     ensures { λ r. ⌜ NextToken (now (s .entry)) c r ⌝ }
 {
     let at = c.at;
-    let from = skip_spaces(s, at);
+    let begun = c.begun;
+    let from = token_start(s, at, begun);
     if from == s.len() {
         return Token {
             from,
             to: from,
-            next: Cursor {
-                at: from,
-                before: b'\n',
-            },
+            next: Cursor { at: from, begun },
         };
     }
-    let first = s[from];
-    let to = token_end(s, from);
+    let to = token_end(s, begun, from);
     let next = Cursor {
         at: to,
-        before: first,
+        begun: s[from] != b'\n',
     };
-    if from - at == gap_due(c.before, first) {
-        Token { from, to, next }
-    } else {
-        Token { from: to, to, next }
-    }
+    Token { from, to, next }
 }

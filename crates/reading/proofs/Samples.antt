@@ -1,11 +1,13 @@
--- Sample sheet a of document 01, and of its sample j all but the text of 4,097 bytes, by computation. Assumes nothing.
+-- Sample sheet a of document 01, of its sample j all but the text of 4,097 bytes, and texts as order 1 of document 02 has them, by
+-- computation. Assumes nothing.
 use mathlib.Core.Path.{_≡_, refl}
-use mathlib.Core.List.{List, [], _∷_, map}
+use mathlib.Core.List.{List, [], _∷_, map, flatMap}
 use Prim.Native.Nat.{ℕ}
 use Prim.Native.String.{String}
 use Rattle.sheet.specs.Answers.{Answer, refused, accepted}
 use Rattle.text.specs.Bytes.{bytes}
-use Rattle.lexing.specs.Tokens.{tokensAfter, laidOut, lexemes, withByte, prefixed, continues, widen}
+use Rattle.lexing.specs.Lines.{onFirst, lines, beforeRemark}
+use Rattle.lexing.specs.Tokens.{extended, words, lineTokens, tokens}
 use Rattle.lexing.specs.Forms.{follow, inTurn}
 use Rattle.lexing.specs.Numbers.{numberAfter, number, digitsAfter, isNumber}
 use Rattle.reading.specs.Grammar.{endLine, yardLine, yardTurn, head}
@@ -33,6 +35,25 @@ samples =
     ∷ ("(sheet (yards 7) (pieces 1))\n(yard 1 (marks 70000))\n(end)\n", refused 4)
     ∷ []
 
+-- texts with spaces, remarks and blank lines
+abbrev pub typed : List (String × Answer Contents)
+typed =
+    ("; felling 12\n\n( sheet(yards 2) (pieces  3 )) ; two of us\n  (yard 1 ( marks 5 3 4))\n   \n(yard 2 (marks 6 2 2 ) );(end)\n(end)  \n ; thanks", contents 2 3 ((5 ∷ 3 ∷ 4 ∷ []) ∷ (6 ∷ 2 ∷ 2 ∷ []) ∷ []))
+    ∷ ("(sheet (yards 1) (pieces 1))\n(yard 1 (marks 5))\n(end) ; thanks", refused 7)
+    ∷ ("(sheet (yards 1) (pieces 1))\n(yard 1 (marks 5))\n(end)\n; thanks", contents 1 1 ((5 ∷ []) ∷ []))
+    ∷ ("(sheet (yards 1) (pieces 1))\n(yard 1 (marks 1 2))\n(end)\n", refused 6)
+    ∷ ("(sheet (yards 1) (pieces 1))\n(yard 1 (marks 1;2))\n(end)\n", refused 6)
+    ∷ ("(sheet (yards 1) (pieces 1))\n(yard 1 (marks\n1))\n(end)\n", refused 6)
+    ∷ ("(sheet (yards 1) (pieces 1))\n(yard1 (marks 1))\n(end)\n", refused 6)
+    ∷ ("(sheet (yards 1) (pieces 1))\n(yard 1 (marks\t1))\n(end)\n", refused 6)
+    ∷ ("  ; (sheet (yards 1) (pieces 1))\n  \n", refused 3)
+    ∷ (" ", refused 3)
+    ∷ []
+
 pub samples-read : map (λ p. reading (bytes (p .0))) samples ≡ map (λ p. p .1) samples
-unfolding reading endLine yardLine yardTurn head numberAfter number digitsAfter isNumber follow inTurn tokensAfter laidOut lexemes withByte prefixed continues widen
+unfolding reading endLine yardLine yardTurn head numberAfter number digitsAfter isNumber follow inTurn onFirst lines beforeRemark extended words lineTokens tokens flatMap
 samples-read = refl
+
+pub typed-read : map (λ p. reading (bytes (p .0))) typed ≡ map (λ p. p .1) typed
+unfolding reading endLine yardLine yardTurn head numberAfter number digitsAfter isNumber follow inTurn onFirst lines beforeRemark extended words lineTokens tokens flatMap
+typed-read = refl

@@ -11,7 +11,7 @@ use sheet::Sheet;
 use sheet::Table;
 use sheet::is_within;
 
-mod forms;
+pub mod forms;
 mod lines;
 
 // One agent's valuation (row of marks).

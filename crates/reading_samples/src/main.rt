@@ -1,5 +1,5 @@
-// Runs the reader on sample sheets a and j of document 01, on texts at each limit and off the layout, and on sheet a damaged at every
-// byte. Each text gives a line: what it is, and what reading it answers.
+// Runs the reader on sample sheets a and j of document 01, on texts at each limit, with spaces and remarks and off the layout, and on
+// sheet a damaged at every byte. Each text gives a line: what it is, and what reading it answers.
 mod answer;
 mod cases;
 mod damage;
@@ -15,6 +15,7 @@ fn main() {
     heads();
     lines();
     ends();
+    typed();
     lengths();
     damage::damaged(
         b"(sheet (yards 2) (pieces 3))\n(yard 1 (marks 5 3 4))\n(yard 2 (marks 6 2 2))\n(end)\n",
@@ -82,7 +83,7 @@ fn orders() {
         large mark, then a missing line|(sheet (yards 2) (pieces 1))\n(yard 1 (marks 70000))\n(end)\n|\
         large mark, then a long one|(sheet (yards 2) (pieces 1))\n(yard 1 (marks 70000))\n(yard 2 (marks 100000))\n(end)\n|\
         large mark and no end|(sheet (yards 2) (pieces 1))\n(yard 1 (marks 70000))\n(yard 2 (marks 1))\n|\
-        large mark and text after the end|(sheet (yards 2) (pieces 1))\n(yard 1 (marks 1))\n(yard 2 (marks 70000))\n(end)\n\n|\
+        large mark and a blank line after the end|(sheet (yards 2) (pieces 1))\n(yard 1 (marks 1))\n(yard 2 (marks 70000))\n(end)\n\n|\
         large mark alone|(sheet (yards 2) (pieces 1))\n(yard 1 (marks 1))\n(yard 2 (marks 70000))\n(end)\n|\
         head without its line feed|(sheet (yards 1) (pieces 1))|\
         no byte||\
@@ -93,7 +94,7 @@ fn orders() {
     );
 }
 
-// Heads off the layout, before lines that are right.
+// Heads in other spellings or off the layout, before lines that are right.
 fn heads() {
     cases::named(
         b"",
@@ -114,7 +115,7 @@ fn heads() {
     );
 }
 
-// Yard lines that are not as they should be, between a head and an end that are right.
+// Yard lines in other spellings or not as they should be, between a head and an end that are right.
 fn lines() {
     cases::named(
         b"(sheet (yards 2) (pieces 2))\n",
@@ -158,6 +159,39 @@ fn ends() {
         carriage return at the end|(end)\r\n|\
         space before the end| (end)\n|\
         space within the end|(end )\n|",
+        b"",
+    );
+}
+
+// Texts with spaces, remarks and blank lines, and lines without a line feed.
+fn typed() {
+    cases::named(
+        b"",
+        b"spaces wherever they may stand|  ( sheet(yards  1)( pieces 2 ) )  \n ( yard 1(marks  5 6 ) ) \n ( end )  \n|\
+        no space that can be spared|(sheet(yards 1)(pieces 2))\n(yard 1(marks 5 6))\n(end)\n|\
+        remark behind each line|(sheet (yards 1) (pieces 2)) ; head\n(yard 1 (marks 5 6));\n(end) ; thanks\n|\
+        lines of remarks|; (sheet\n  ; felled in May\n(sheet (yards 1) (pieces 2))\n;;\n(yard 1 (marks 5 6))\n; (end)\n(end)\n;\n|\
+        blank lines|\n   \n(sheet (yards 1) (pieces 2))\n\n\n(yard 1 (marks 5 6))\n \n(end)\n\n  \n|\
+        any bytes in a remark|(sheet (yards 1) (pieces 2)) ;\0\xff\t\r)(;\n(yard 1 (marks 5 6))\n(end)\n|\
+        end line in a remark|(sheet (yards 1) (pieces 2))\n(yard 1 (marks 5 6))\n; (end)\n|\
+        remark over the end of the head|(sheet (yards 1) ; (pieces 2))\n(yard 1 (marks 5 6))\n(end)\n|\
+        remark over the end of a yard line|(sheet (yards 1) (pieces 2))\n(yard 1 (marks 5 6 ; ))\n(end)\n|\
+        semicolon within a word|(sheet (yar;ds 1) (pieces 2))\n(yard 1 (marks 5 6))\n(end)\n|\
+        semicolon between marks|(sheet (yards 1) (pieces 2))\n(yard 1 (marks 5;6))\n(end)\n|\
+        nothing but spaces|   |\
+        nothing but a remark|; (sheet (yards 1) (pieces 2))|\
+        nothing but spaces, remarks and line feeds|\n  ; none\n\n;\n|\
+        unended remark behind the end|(sheet (yards 1) (pieces 2))\n(yard 1 (marks 5 6))\n(end)\n  ; thanks|\
+        remark behind the end line, no line feed|(sheet (yards 1) (pieces 2))\n(yard 1 (marks 5 6))\n(end) ; thanks|\
+        space behind the end line, no line feed|(sheet (yards 1) (pieces 2))\n(yard 1 (marks 5 6))\n(end) |\
+        remark behind the head, no line feed|(sheet (yards 1) (pieces 2)) ; marks to come|\
+        token behind a line of a remark|(sheet (yards 1) (pieces 2))\n(yard 1 (marks 5 6))\n(end)\n; thanks\nx\n|\
+        word and number glued|(sheet (yards1) (pieces 2))\n(yard 1 (marks 5 6))\n(end)\n|\
+        marks glued|(sheet (yards 1) (pieces 2))\n(yard 1 (marks 56))\n(end)\n|\
+        mark split|(sheet (yards 1) (pieces 2))\n(yard 1 (marks 5 6 5))\n(end)\n|\
+        yard line over two lines|(sheet (yards 1) (pieces 2))\n(yard 1\n  (marks 5 6))\n(end)\n|\
+        tab on a line of its own|(sheet (yards 1) (pieces 2))\n\t\n(yard 1 (marks 5 6))\n(end)\n|\
+        large mark and a line after the end|( sheet (yards 1)(pieces 2)) ;\n\n(yard 1 (marks 5 70000))\n(end)\nx\n|",
         b"",
     );
 }

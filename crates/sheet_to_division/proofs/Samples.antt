@@ -5,7 +5,8 @@ use Rattle.sheet.specs.Answers.{accepted}
 use Rattle.sheet.specs.Tables.{profile}
 use Rattle.text.specs.Bytes.{bytes}
 use Rattle.text.specs.Decimal.{digitsIn, decimal, spacedNumbers}
-use Rattle.lexing.specs.Tokens.{tokensAfter, laidOut, lexemes, withByte, prefixed, continues, widen}
+use Rattle.lexing.specs.Lines.{onFirst, lines, beforeRemark}
+use Rattle.lexing.specs.Tokens.{extended, words, lineTokens, tokens}
 use Rattle.lexing.specs.Forms as forms
 use Rattle.lexing.specs.Numbers as numbers
 use Rattle.reading.specs.Grammar as grammar
@@ -23,5 +24,5 @@ use Rattle.sheet_to_division.specs.ShareOut.{shareOut}
 
 pub sheet-a : shareOut (bytes "(sheet (yards 2) (pieces 3))\n(yard 1 (marks 5 3 4))\n(yard 2 (marks 6 2 2))\n(end)\n") longestPrinted
     ≡ accepted (bytes "(division (yards 2) (pieces 3) (grade 3))\n(yard 1 (pile 1) (worth 5) (share 5) (cut (1) (2 3)))\n(yard 2 (pile 2 3) (worth 4) (share 4) (cut (1) (2 3)))\n(cutters 1)\n(end)\n")
-unfolding shareOut reading grammar.endLine grammar.yardLine grammar.yardTurn grammar.head numbers.numberAfter numbers.number numbers.digitsAfter numbers.isNumber forms.inTurn forms.follow tokensAfter laidOut lexemes withByte prefixed continues widen answer divisionOf sharing sharesCovered profile termsFor largestOdd round rounds held waitingSet matching maximinShare maximinPartition grade envyFree proportional maximinFair printing printed allLines headLine pileGroup amounts cutGroup yardLine cuttersLine digitsIn decimal spacedNumbers flatMap
+unfolding shareOut reading grammar.endLine grammar.yardLine grammar.yardTurn grammar.head numbers.numberAfter numbers.number numbers.digitsAfter numbers.isNumber forms.inTurn forms.follow onFirst lines beforeRemark extended words lineTokens tokens answer divisionOf sharing sharesCovered profile termsFor largestOdd round rounds held waitingSet matching maximinShare maximinPartition grade envyFree proportional maximinFair printing printed allLines headLine pileGroup amounts cutGroup yardLine cuttersLine digitsIn decimal spacedNumbers flatMap
 sheet-a = refl

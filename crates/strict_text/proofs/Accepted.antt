@@ -27,7 +27,7 @@ pub record AcceptedText (text : List ℕ) (c : Contents) : Type 0 where
   pub marks-allowed : all allowedRow rows ≡ true
   pub table-is : c .table ≡ tableOf rows
 
-accepted-injective : (a b : Contents) → accepted a ≡ accepted b → a ≡ b
+pub accepted-injective : (a b : Contents) → accepted a ≡ accepted b → a ≡ b
 accepted-injective a b e = cc
 
 pub accepted-text : (text : List ℕ) (c : Contents) → reading text ≡ accepted c → AcceptedText text c

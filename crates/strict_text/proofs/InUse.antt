@@ -1,16 +1,17 @@
--- The marks in use of a table, and the lengths of its rows. Assumes nothing.
-use mathlib.Core.Path.{_≡_, refl, ap, ap₂, _∙_}
-use mathlib.Core.List.{List, [], _∷_, map}
-use Prim.Native.Nat.{ℕ, _-_, _≤_}
+-- The marks in use of a table, the lengths of its rows, and its lines one behind the other. Assumes nothing.
+use mathlib.Core.Path.{_≡_, refl, sym, ap, ap₂, _∙_}
+use mathlib.Core.List.{List, [], _∷_, _++_, map, map-append, append-nil, append-assoc}
+use Prim.Native.Nat.{ℕ, _+_, _-_, _≤_, _<_}
+use native.Mathlib.Numerals.{add-one}
 use native.Mathlib.Omega.{arith}
-use lib.ListN.{length, take, length-map, length-take}
-use lib.Seq.{take-at, length-take-le}
+use lib.ListN.{length, getD, take, length-map, length-take}
+use lib.Seq.{take-suc, take-at, length-take-le}
 use Rattle.lists.specs.Lists.{padded}
 use Rattle.lists.proofs.places.Padding.{length-padded}
 use Rattle.lists.proofs.members.Each.{AllOfLength, each-append, each-take, each-map, each-replicate}
 use Rattle.sheet.specs.Limits.{mostAgents, mostItems, blankRow}
 use Rattle.reading.specs.Reading.{tableOf}
-use Rattle.strict_text.specs.StrictText.{inUse}
+use Rattle.strict_text.specs.StrictText.{yardText, yardTexts, inUse}
 
 -- the marks in use of the table of some rows are these rows
 take-padded-rows : (items : ℕ) (rows : List (List ℕ)) → AllOfLength items rows → map (take items) (map (padded mostItems 0) rows) ≡ rows
@@ -42,3 +43,22 @@ module _ (agents items : ℕ) (table : List (List ℕ)) where
       let rows = inUse agents items table in
       each-append _ (map (padded mostItems 0) rows) _ (padded-places items (take agents table) p)
       (each-replicate _ (mostAgents - length (map (padded mostItems 0) rows)) blankRow refl)
+
+-- one yard line more
+yardTexts-snoc : (yard : ℕ) (rows : List (List ℕ)) (row : List ℕ) → yardTexts yard (rows ++ (row ∷ [])) ≡ yardTexts yard rows ++ yardText (length rows + yard) row
+unfolding yardTexts
+yardTexts-snoc yard [] row = append-nil (yardText yard row) ∙ ap (λ k. yardText k row) (omega arith)
+yardTexts-snoc yard (first ∷ rows) row =
+    ap (λ t. yardText yard first ++ t) (yardTexts-snoc (yard + 1) rows row)
+    ∙ sym (append-assoc (yardText yard first) (yardTexts (yard + 1) rows) (yardText (length rows + (yard + 1)) row))
+    ∙ ap (λ k. (yardText yard first ++ yardTexts (yard + 1) rows) ++ yardText k row) (omega arith)
+
+pub yardTexts-next : (items : ℕ) (table : List (List ℕ)) (i : ℕ) → i < length table
+    → yardTexts 1 (inUse (i + 1) items table) ≡ yardTexts 1 (inUse i items table) ++ yardText (i + 1) (take items (getD table i []))
+yardTexts-next items table i more =
+    let rows : length (inUse i items table) ≡ i = length-map (take i table) (take items) ∙ length-take-le i table (omega arith) in
+    ap (λ k. yardTexts 1 (map (take items) (take k table))) (add-one i)
+    ∙ ap (λ t. yardTexts 1 (map (take items) t)) (take-suc table i [] more)
+    ∙ ap (yardTexts 1) (map-append (take items) (take i table) (getD table i [] ∷ []))
+    ∙ yardTexts-snoc 1 (inUse i items table) (take items (getD table i []))
+    ∙ ap (λ k. yardTexts 1 (inUse i items table) ++ yardText (k + 1) (take items (getD table i []))) rows

@@ -1,9 +1,7 @@
 -- Both laws of the round trip: the strict text is read back to its table, and an accepted text is the strict text of what it reads to.
 pub mod Decimal
 pub mod SheetTokens
-pub mod Spelling
-pub mod SheetTokenLaws
-pub mod SheetSpelling
+pub mod SheetLexed
 pub mod Readers
 pub mod TokensRead
 pub mod InUse

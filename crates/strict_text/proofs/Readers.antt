@@ -7,6 +7,7 @@ use Prim.Native.Nat.{ℕ, zero, suc, _+_}
 use lib.Dec.{eqb}
 use borrow.Author.Tests.{eqb-true}
 use Rattle.lists.specs.Lists.{all}
+use Rattle.text.specs.Bytes.{bytes}
 use Rattle.text.specs.Decimal.{decimal}
 use Rattle.lexing.specs.Tokens.{Token}
 use Rattle.sheet.specs.Limits.{countDigits, markDigits}
@@ -14,10 +15,10 @@ use Rattle.lexing.specs.Forms.{_>>=_, same, form, follow, inTurn}
 use Rattle.lexing.specs.Numbers.{isNumber, digitsAfter, number, numberAfter}
 use Rattle.reading.specs.SheetForms.{beforeAgents, beforeItems, beforeTurn, beforeMarks, lineEnd, lastLine}
 use Rattle.reading.specs.Grammar.{head, marks, yardTurn, yardLine, yardLines, endedAfter, endLine}
-use Rattle.strict_text.proofs.SheetTokens.{isToken, headTokens, tokensInTurn, turnTokens, yardTokens, yardsTokens}
+use Rattle.strict_text.proofs.SheetTokens.{headTokens, tokensInTurn, turnTokens, yardTokens, yardsTokens}
 use Rattle.lexing.proofs.readers.Same.{same-true}
+use Rattle.lexing.proofs.texts.HaveBytes.{hasByte, tokens-have-bytes}
 use Rattle.strict_text.proofs.Decimal.{decimal-of-value}
-use Rattle.strict_text.proofs.SheetTokenLaws.{sheet-form, items-form, line-end-form, yard-form, marks-form, end-form}
 
 -- what two readers, one after the other, have read
 record Bound {A B : Type 0} (o : Option A) (f : A → Option B) (b : B) : Type 0 where
@@ -40,13 +41,13 @@ two-read a b r e = let p = Option·some-injective _ _ e in (ap (λ q. q .0) p, a
 three-read : {A B C : Type 0} (a : A) (b : B) (c : C) (r : A × B × C) → some (a, b, c) ≡ some r → (a ≡ r .0) × (b ≡ r .1) × (c ≡ r .2)
 three-read a b c r e = let p = Option·some-injective _ _ e in (ap (λ q. q .0) p, ap (λ q. q .1) p, ap (λ q. q .2) p)
 
-follow-inverse : (fs ts ts′ : List Token) → all isToken fs ≡ true → follow fs ts ≡ some ts′ → ts ≡ fs ++ ts′
-unfolding follow isToken
+follow-inverse : (fs ts ts′ : List Token) → all hasByte fs ≡ true → follow fs ts ≡ some ts′ → ts ≡ fs ++ ts′
+unfolding follow
 follow-inverse [] ts ts′ t e = Option·some-injective ts ts′ e
 follow-inverse ([] ∷ fs) ts ts′ t e = absurd (false≢true t)
 follow-inverse ((b ∷ bs) ∷ fs) [] ts′ t e = absurd (Option·none-ne-some ts′ e)
 follow-inverse ((b ∷ bs) ∷ fs) (w ∷ ws) ts′ t e =
-    go (same (b ∷ bs) w) refl (follow-inverse fs ws ts′ (and-eq-true-iff (isToken (b ∷ bs)) (all isToken fs) .0 t .1))
+    go (same (b ∷ bs) w) refl (follow-inverse fs ws ts′ (and-eq-true-iff (hasByte (b ∷ bs)) (all hasByte fs) .0 t .1))
   where
     go : (p : Bool) → same (b ∷ bs) w ≡ p → (follow fs ws ≡ some ts′ → ws ≡ fs ++ ts′) → w ∷ ws ≡ (b ∷ bs) ∷ fs ++ ts′
     go true s later = ap₂ _∷_ (sym (same-true (b ∷ bs) w s)) (later (rw s at e))
@@ -59,7 +60,7 @@ number-inverse most (w ∷ ws) r e =
     let read = passed (isNumber most w) (digitsAfter 0 w, ws) r e in
     ap (λ v. v ∷ ws) (sym (decimal-of-value most w (read .0))) ∙ ap (λ q. decimal (q .0) ∷ q .1) (read .1)
 
-numberAfter-inverse : (fs : List Token) (most : ℕ) (ts : List Token) (r : ℕ × List Token) → all isToken fs ≡ true → numberAfter fs most ts ≡ some r
+numberAfter-inverse : (fs : List Token) (most : ℕ) (ts : List Token) (r : ℕ × List Token) → all hasByte fs ≡ true → numberAfter fs most ts ≡ some r
     → ts ≡ fs ++ decimal (r .0) ∷ r .1
 unfolding numberAfter
 numberAfter-inverse fs most ts r t e =
@@ -72,9 +73,9 @@ head-inverse ts r e =
     let agents = bound (numberAfter (form beforeAgents) countDigits ts) _ r e in
     let items = bound (numberAfter (form beforeItems) countDigits (agents .first .1)) _ r (agents .then-read) in
     let line = bound (follow (form lineEnd) (items .first .1)) _ r (items .then-read) in
-    let to-agents = numberAfter-inverse (form beforeAgents) countDigits ts (agents .first) sheet-form (agents .first-read) in
-    let to-items = numberAfter-inverse (form beforeItems) countDigits (agents .first .1) (items .first) items-form (items .first-read) in
-    let to-end = follow-inverse (form lineEnd) (items .first .1) (line .first) line-end-form (line .first-read) in
+    let to-agents = numberAfter-inverse (form beforeAgents) countDigits ts (agents .first) (tokens-have-bytes (bytes beforeAgents)) (agents .first-read) in
+    let to-items = numberAfter-inverse (form beforeItems) countDigits (agents .first .1) (items .first) (tokens-have-bytes (bytes beforeItems)) (items .first-read) in
+    let to-end = follow-inverse (form lineEnd) (items .first .1) (line .first) (tokens-have-bytes (bytes lineEnd)) (line .first-read) in
     let all-read = three-read (agents .first .0) (items .first .0) (line .first) r (line .then-read) in
     simp append-assoc (cc)
 
@@ -111,8 +112,8 @@ yardTurn-inverse turn ts ts′ e =
     let turned = bound (cond (eqb (yard .first .0) turn) (some (yard .first .1)) none) _ ts′ (yard .then-read) in
     let test = passed (eqb (yard .first .0) turn) (yard .first .1) (turned .first) (turned .first-read) in
     let in-turn = eqb-true (yard .first .0) turn (test .0) in
-    let to-yard = numberAfter-inverse (form beforeTurn) countDigits ts (yard .first) yard-form (yard .first-read) in
-    let to-marks = follow-inverse (form beforeMarks) (turned .first) ts′ marks-form (turned .then-read) in
+    let to-yard = numberAfter-inverse (form beforeTurn) countDigits ts (yard .first) (tokens-have-bytes (bytes beforeTurn)) (yard .first-read) in
+    let to-marks = follow-inverse (form beforeMarks) (turned .first) ts′ (tokens-have-bytes (bytes beforeMarks)) (turned .then-read) in
     simp append-assoc (cc)
 
 yardLine-inverse : (items turn : ℕ) (ts : List Token) (r : List ℕ × List Token) → yardLine items turn ts ≡ some r → ts ≡ yardTokens turn (r .0) ++ r .1
@@ -123,7 +124,7 @@ yardLine-inverse items turn ts r e =
     let line = bound (follow (form lineEnd) (row .first .1)) _ r (row .then-read) in
     let to-row = yardTurn-inverse turn ts (start .first) (start .first-read) in
     let to-end = marks-inverse items (start .first) (row .first) (row .first-read) in
-    let to-next = follow-inverse (form lineEnd) (row .first .1) (line .first) line-end-form (line .first-read) in
+    let to-next = follow-inverse (form lineEnd) (row .first .1) (line .first) (tokens-have-bytes (bytes lineEnd)) (line .first-read) in
     let all-read = two-read (row .first .0) (line .first) r (line .then-read) in
     simp append-assoc (cc)
 
@@ -137,5 +138,5 @@ endLine-inverse ts e = go (follow (form lastLine) ts) refl e
   where
     go : (o : Option (List Token)) → follow (form lastLine) ts ≡ o → endedAfter o ≡ true → ts ≡ form lastLine
     go none f e = absurd (false≢true e)
-    go (some []) f e = follow-inverse (form lastLine) ts [] end-form f ∙ append-nil (form lastLine)
+    go (some []) f e = follow-inverse (form lastLine) ts [] (tokens-have-bytes (bytes lastLine)) f ∙ append-nil (form lastLine)
     go (some (t ∷ ts′)) f e = absurd (false≢true e)

@@ -1,9 +1,10 @@
--- The strict text and the reading give back one another: the strict text of everything within the limits is read to just that, and
--- every accepted text is the strict text of what it is read to. So the strict layout has exactly one text for each sheet.
--- Assumes nothing.
+-- The strict text and the reading. The strict text of everything within the limits is read to just that; an accepted text has the tokens
+-- of its strict text, so that the two differ in spaces, remarks and blank lines alone; two accepted texts have the same strict text exactly
+-- when they carry the same counts and marks. Assumes nothing.
 use mathlib.Core.Path.{_≡_, sym, ap, _∙_}
 use mathlib.Core.List.{List}
 use mathlib.Core.Bool.{true}
+use mathlib.Core.Logic.{_↔_}
 use Prim.Native.Nat.{ℕ, _≤_, _<_}
 use native.Mathlib.Omega.{arith}
 use lib.ListN.{length}
@@ -13,28 +14,21 @@ use Rattle.lists.proofs.members.Each.{AllOfLength}
 use Rattle.sheet.specs.Limits.{mostAgents, mostItems, longestText, within}
 use Rattle.sheet.specs.Answers.{accepted}
 use Rattle.sheet.proofs.Limits.{within-bounds}
-use Rattle.lexing.specs.Tokens.{lineFeed, tokens}
+use Rattle.lexing.specs.Tokens.{tokens}
 use Rattle.lexing.specs.Forms.{form}
 use Rattle.reading.specs.SheetForms.{lastLine}
 use Rattle.reading.specs.Reading.{Contents, allowedRow, tableOf, reading}
 use Rattle.reading.proofs.Shape.{lines-read-shape}
 use Rattle.strict_text.specs.StrictText.{headText, inUse, sheetText, strictText}
 use Rattle.strict_text.specs.WithinLimits.{WithinLimits}
-use Rattle.strict_text.proofs.SheetTokens.{spelt, isToken, sheetTokens}
-use Rattle.strict_text.proofs.Spelling.{tokens-spelt, spelt-tokens}
-use Rattle.strict_text.proofs.SheetTokenLaws.{sheetTokens-are-tokens}
-use Rattle.strict_text.proofs.SheetSpelling.{spelt-sheetTokens}
+use Rattle.strict_text.proofs.SheetTokens.{sheetTokens}
+use Rattle.strict_text.proofs.SheetLexed.{tokens-sheetText}
 use Rattle.strict_text.proofs.Readers.{head-inverse, yardLines-inverse, endLine-inverse}
 use Rattle.strict_text.proofs.TokensRead.{head-headTokens, yardLines-yardsTokens, endLine-form}
 use Rattle.strict_text.proofs.InUse.{inUse-tableOf, inUse-rows, inUse-places}
 use Rattle.strict_text.proofs.WithinLimits.{agents-bounds, items-bounds, rows-in-use, marks-in-use}
 use Rattle.strict_text.proofs.TextLength.{lines-length}
-use Rattle.strict_text.proofs.Accepted.{accepted-text}
-
--- the tokens of a sheet's text
-tokens-sheetText : (agents items : ℕ) (rows : List (List ℕ)) → tokens (sheetText agents items rows) ≡ sheetTokens agents items rows
-tokens-sheetText agents items rows =
-    ap tokens (sym (spelt-sheetTokens agents items rows)) ∙ tokens-spelt lineFeed (sheetTokens agents items rows) (sheetTokens-are-tokens agents items rows)
+use Rattle.strict_text.proofs.Accepted.{accepted-injective, accepted-text}
 
 sheetText-nonempty : (agents items : ℕ) (rows : List (List ℕ)) → 0 < length (sheetText agents items rows)
 unfolding sheetText headText
@@ -64,7 +58,7 @@ module _ (c : Contents) where
         rw (short, some-byte, tokens-sheetText (c .agents) (c .items) (rowsOf c), head-headTokens (c .agents) (c .items) _ (omega arith) (omega arith), w .agents-within, w .items-within, lines, endLine-form, w .marks-allowed)
         (ap (λ table. accepted (record { agents = c .agents; items = c .items; table = table })) (sym (w .blank-beyond)))
 
-  -- an accepted text is the strict text of what it is read to, and that is within the limits
+  -- an accepted text: what it is read to is within the limits, its tokens are those of the strict text, and that is read back
   module _ (text : List ℕ) (e : reading text ≡ accepted c) where
     rows-accepted : rowsOf c ≡ accepted-text text c e .rows
     rows-accepted =
@@ -72,21 +66,16 @@ module _ (c : Contents) where
         let shape = lines-read-shape (c .agents) (c .items) (a .after-head) (a .rows) (a .last) (a .lines-are) in
         ap (inUse (c .agents) (c .items)) (a .table-is) ∙ inUse-tableOf (c .agents) (c .items) (a .rows) (shape .0) (shape .1)
 
-    tokens-accepted : tokens text ≡ sheetTokens (c .agents) (c .items) (rowsOf c)
-    unfolding sheetTokens
-    tokens-accepted =
+    pub accepted-tokens : tokens text ≡ tokens (strictText c)
+    unfolding strictText sheetTokens
+    accepted-tokens =
         let a = accepted-text text c e in
         let from-head = head-inverse (tokens text) (c .agents, c .items, a .after-head) (a .head-is) in
         let from-lines = yardLines-inverse (c .agents) (c .items) (a .after-head) (a .rows, a .last) (a .lines-are) in
         let from-end = endLine-inverse (a .last) (a .ends) in
         let used = rows-accepted in
+        let strict = tokens-sheetText (c .agents) (c .items) (rowsOf c) in
         cc
-
-    pub reading-strictText : text ≡ strictText c
-    unfolding strictText
-    reading-strictText =
-        let laid-out = ap (all isToken) tokens-accepted ∙ sheetTokens-are-tokens (c .agents) (c .items) (rowsOf c) in
-        sym (spelt-tokens lineFeed text laid-out) ∙ ap (spelt lineFeed) tokens-accepted ∙ spelt-sheetTokens (c .agents) (c .items) (rowsOf c)
 
     pub reading-withinLimits : WithinLimits c
     reading-withinLimits =
@@ -98,9 +87,15 @@ module _ (c : Contents) where
           marks-allowed = ap (all allowedRow) rows-accepted ∙ a .marks-allowed;
         }
 
-  -- two texts that are read to the same sheet are equal
-  pub reading-injective : (s t : List ℕ) → reading s ≡ accepted c → reading t ≡ accepted c → s ≡ t
-  reading-injective s t e f = reading-strictText s e ∙ sym (reading-strictText t f)
+    pub accepted-read-back : reading (strictText c) ≡ accepted c
+    accepted-read-back = strictText-read reading-withinLimits
+
+-- two accepted texts have the same strict text exactly when they carry the same counts and marks
+pub strictText-same-iff : (s t : List ℕ) (c d : Contents) → reading s ≡ accepted c → reading t ≡ accepted d → (strictText c ≡ strictText d) ↔ (c ≡ d)
+strictText-same-iff s t c d e f =
+    let back-c = accepted-read-back c s e in
+    let back-d = accepted-read-back d t f in
+    (λ same. accepted-injective c d (sym back-c ∙ ap reading same ∙ back-d), ap strictText)
 
 -- whatever stands in the places that are not in use, the strict text is read to the marks in use
 pub strictText-read-inUse : (c : Contents) → within mostAgents (c .agents) ≡ true → within mostItems (c .items) ≡ true

@@ -1,38 +1,14 @@
--- The tokens of a sheet, and the bytes of tokens that are laid out strictly: what the laws of the strict text go through.
--- Assumes nothing: these are definitions.
+-- The tokens of a sheet's lines: what the laws of the strict text go through. Assumes nothing: these are definitions.
 use mathlib.Core.List.{List, [], _∷_, _++_, map}
-use mathlib.Core.Bool.{Bool, false, _||_}
 use Prim.Native.Nat.{ℕ, _+_}
-use lib.ListN.{replicate}
-use Rattle.lists.specs.Lists.{all}
 use Rattle.text.specs.Decimal.{decimal}
-use Rattle.lexing.specs.Tokens.{Token, Lexeme, space, isDelimiter, isWordByte, firstByte, gapDue}
+use Rattle.lexing.specs.Tokens.{Token}
 use Rattle.lexing.specs.Forms.{form}
 use Rattle.reading.specs.SheetForms.{beforeAgents, beforeItems, beforeTurn, beforeMarks, lineEnd, lastLine}
 
--- the bytes of lexemes
-unfoldable pub written : List Lexeme → List ℕ
-written [] = []
-written (l ∷ ls) = replicate (l .gap) space ++ (l .bytes ++ written ls)
-
--- tokens as lexemes, each after the spaces due
-unfoldable pub spaced : ℕ → List Token → List Lexeme
-spaced before [] = []
-spaced before (t ∷ ts) = record { gap = gapDue before (firstByte t); bytes = t } ∷ spaced (firstByte t) ts
-
--- the bytes of the tokens that follow a token that begins with `before`
-abbrev pub spelt : ℕ → List Token → List ℕ
-spelt before ts = written (spaced before ts)
-
--- whether bytes are a token: a delimiter, or a word of at least one byte
-unfoldable pub isToken : Token → Bool
-isToken [] = false
-isToken (b ∷ []) = isDelimiter b || isWordByte b
-isToken (b ∷ c ∷ bs) = all isWordByte (b ∷ c ∷ bs)
-
 -- the tokens of the head
 unfoldable pub headTokens : ℕ → ℕ → List Token
-headTokens agents items = form beforeAgents ++ decimal agents ∷ form beforeItems ++ decimal items ∷ form lineEnd
+headTokens agents items = form beforeAgents ++ (decimal agents ∷ []) ++ form beforeItems ++ (decimal items ∷ []) ++ form lineEnd
 
 -- the tokens of entries one after another, the first of them with the number `turn`
 unfoldable pub tokensInTurn : {A : Type 0} → (ℕ → A → List Token) → ℕ → List A → List Token
@@ -41,7 +17,7 @@ tokensInTurn tokensOf turn (a ∷ others) = tokensOf turn a ++ tokensInTurn toke
 
 -- the tokens of a yard line up to its marks, of the line, and of the lines from the given yard on
 unfoldable pub turnTokens : ℕ → List Token
-turnTokens yard = form beforeTurn ++ decimal yard ∷ form beforeMarks
+turnTokens yard = form beforeTurn ++ (decimal yard ∷ []) ++ form beforeMarks
 
 unfoldable pub yardTokens : ℕ → List ℕ → List Token
 yardTokens yard row = turnTokens yard ++ map decimal row ++ form lineEnd

@@ -1,10 +1,11 @@
 -- The strict text of a sheet (document 01, "The sheet"): what a writer writes. It does not go through the tokens by which a text is
 -- read. Assumes nothing: these are definitions.
 use mathlib.Core.List.{List, [], _∷_, _++_, map}
-use Prim.Native.Nat.{ℕ, _+_}
+use Prim.Native.Nat.{ℕ, suc, _+_, _*_}
 use lib.ListN.{take}
 use Rattle.text.specs.Bytes.{bytes}
 use Rattle.text.specs.Decimal.{spacedNumber, spacedNumbers}
+use Rattle.sheet.specs.Limits.{mostAgents, mostItems, markDigits}
 use Rattle.reading.specs.SheetForms.{beforeAgents, beforeItems, beforeTurn, beforeMarks, lineEnd, lastLine}
 use Rattle.reading.specs.Reading.{Contents}
 
@@ -31,3 +32,16 @@ sheetText agents items rows = headText agents items ++ yardTexts 1 rows ++ bytes
 
 unfoldable pub strictText : Contents → List ℕ
 strictText c = sheetText (c .agents) (c .items) (inUse (c .agents) (c .items) (c .table))
+
+-- the most bytes of the head of a table within the limits: (sheet (yards 6) (pieces 12)) and the line feed
+abbrev pub longestHead : ℕ
+longestHead = 30
+
+-- the most bytes of a yard line: (yard 6 (marks)) and the line feed, and a space and the digits of a mark for each piece
+abbrev pub longestYard : ℕ
+longestYard = 17 + mostItems * suc markDigits
+
+-- a buffer of so many bytes is long enough for every table within the limits (proofs/TextLength.antt): the head, a line for each yard,
+-- and (end) with the line feed
+abbrev pub longestStrict : ℕ
+longestStrict = longestHead + mostAgents * longestYard + 6

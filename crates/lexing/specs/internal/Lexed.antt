@@ -1,13 +1,14 @@
--- The spaces, the words and the tokens that stand between two places of a text. Assumes nothing: these are definitions.
+-- What stands between two places of a text: bytes that count for nothing, words and tokens. Assumes nothing: these are definitions.
 use mathlib.Core.Path.{_≡_}
 use mathlib.Core.List.{List, _∷_}
-use mathlib.Core.Bool.{true, false}
-use Prim.Native.Nat.{ℕ, zero, suc, _-_, _≤_, _<_}
+use mathlib.Core.Bool.{Bool, true, false, not, _&&_, _||_}
+use Prim.Native.Nat.{ℕ, _-_, _≤_, _<_}
 use lib.ListN.{length, getD, take, drop}
 use lib.Dec.{eqb}
-use Rattle.lexing.specs.Tokens.{Lexeme, lineFeed, space, isWordByte, widen, lexemes}
-use Rattle.lexing.specs.Forms.{first, rest}
-use Rattle.lexing.specs.Places.{tokensAt}
+use Rattle.lexing.specs.Lines.{lineFeed, space, semicolon}
+use Rattle.lexing.specs.Tokens.{Token, isBracket, isWordByte}
+use Rattle.lexing.specs.Forms.{first, rest, ended}
+use Rattle.lexing.specs.Places.{tokensAfter, tokensAt}
 use Rattle.lexing.specs.declared.tokens.Cursor.{Cursor}
 use Rattle.lexing.specs.declared.tokens.Token as token
 
@@ -19,40 +20,58 @@ part s from to = take (to - from) (drop from s)
 abbrev pub bytesOf : List ℕ → token.Token → List ℕ
 bytesOf s t = part s (t .from) (t .to)
 
--- so many more spaces before the first lexeme
-unfoldable pub widenBy : ℕ → List Lexeme → List Lexeme
-widenBy zero ls = ls
-widenBy (suc n) ls = widen (widenBy n ls)
+-- a byte that is a token by itself
+abbrev pub isDelimiter : ℕ → Bool
+isDelimiter b = isBracket b || eqb b lineFeed
 
--- the spaces from `at` end at `to`; the end of the text counts as a line feed
-pub record SpacesTo (s : List ℕ) (at to : ℕ) : Type 0 where
+-- whether a byte counts for nothing, on a line that has begun with a token, or not: a space, what begins a remark, the end of a blank line
+abbrev pub countsForNothing : Bool → ℕ → Bool
+countsForNothing begun b = eqb b space || eqb b semicolon || (not begun && eqb b lineFeed)
+
+-- the bytes from `at` to `i` belong to the remark that begins at `at`
+pub record InRemark (s : List ℕ) (at i : ℕ) : Type 0 where
+  pub same : (begun : Bool) → tokensAfter begun (drop at s) ≡ tokensAfter begun (semicolon ∷ drop i s)
+
+-- the remark that begins at `at` ends at `to`: whatever its line has begun with, the tokens are those of what follows it
+pub record RemarkTo (s : List ℕ) (at to : ℕ) : Type 0 where
+  pub ordered : at < to
+  pub inside : to ≤ length s
+  pub same : (begun : Bool) → tokensAfter begun (drop at s) ≡ tokensAfter begun (drop to s)
+
+-- where the byte at `at` counts for nothing, so do all up to `to`
+pub record Passed (s : List ℕ) (at to : ℕ) : Type 0 where
+  pub ordered : at < to
+  pub inside : to ≤ length s
+  pub same : (begun : Bool) → countsForNothing begun (getD s at 0) ≡ true → tokensAfter begun (drop at s) ≡ tokensAfter begun (drop to s)
+
+-- from `at` to `to` nothing counts, and there a token begins, or the text ends
+pub record BlankTo (s : List ℕ) (begun : Bool) (at to : ℕ) : Type 0 where
   pub ordered : at ≤ to
   pub inside : to ≤ length s
-  pub widened : lexemes (drop at s) ≡ widenBy (to - at) (lexemes (drop to s))
-  pub stops : eqb (getD s to lineFeed) space ≡ false
-
--- the bytes from `from` to `to` are word bytes
-pub record WordBytes (s : List ℕ) (from to : ℕ) : Type 0 where
-  pub each : (k : ℕ) → k < to → from ≤ k → isWordByte (getD s k lineFeed) ≡ true
+  pub same : tokensAfter begun (drop at s) ≡ tokensAfter begun (drop to s)
+  pub stops : to < length s → countsForNothing begun (getD s to 0) ≡ false
 
 -- the word bytes from `from` end at `to`
+pub record WordBytes (s : List ℕ) (from to : ℕ) : Type 0 where
+  pub each : (k : ℕ) → k < to → from ≤ k → isWordByte (getD s k space) ≡ true
+
 pub record WordTo (s : List ℕ) (from to : ℕ) : Type 0 where
   pub ordered : from ≤ to
   pub inside : to ≤ length s
   pub words : WordBytes s from to
-  pub stops : isWordByte (getD s to lineFeed) ≡ false
+  pub stops : isWordByte (getD s to space) ≡ false
 
--- one lexeme stands from `from` to `to`
-pub record LexemeTo (s : List ℕ) (from to : ℕ) : Type 0 where
+-- one token stands from `from` to `to`
+pub record TokenTo (s : List ℕ) (begun : Bool) (from to : ℕ) : Type 0 where
   pub ordered : from < to
   pub inside : to ≤ length s
-  pub lexed : lexemes (drop from s) ≡ record { gap = 0; bytes = part s from to } ∷ lexemes (drop to s)
+  pub lexed : tokensAfter begun (drop from s) ≡ part s from to ∷ tokensAfter (not (eqb (getD s from 0) lineFeed)) (drop to s)
 
--- the token t is the first at the place c
+-- the token t is the first at the place c; it has no byte where there is none
 pub record NextToken (s : List ℕ) (c : Cursor) (t : token.Token) : Type 0 where
   pub ordered : t .from ≤ t .to
   pub inside : t .to ≤ length s
   pub next-inside : t .next .at ≤ length s
-  pub advances : c .at < length s → c .at < t .next .at
+  pub advances : ended (tokensAt s c) ≡ false → c .at < t .next .at
   pub is-first : bytesOf s t ≡ first (tokensAt s c)
   pub then-rest : tokensAt s (t .next) ≡ rest (tokensAt s c)

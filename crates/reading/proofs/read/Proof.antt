@@ -14,7 +14,7 @@ use Rattle.sheet.specs.Limits.{longestText, mostAgents, mostItems, within}
 use Rattle.sheet.proofs.Limits.{within-bounds}
 use Rattle.lexing.specs.Tokens.{tokens}
 use Rattle.lexing.specs.Places.{tokensAt}
-use Rattle.lexing.proofs.lexemes.Places.{tokens-start}
+use Rattle.lexing.proofs.texts.Places.{tokens-start}
 use Rattle.reading.specs.Grammar.{head, yardLines, endLine}
 use Rattle.reading.specs.Reading.{allowedRow, reading}
 use Rattle.reading.specs.Outcome.{valuation}

@@ -1,5 +1,6 @@
 -- `forms::follow` meets its contract. The loop's invariant: what is left of the form is to be followed from here. Assumes nothing.
 use mathlib.Core.Path.{_≡_, refl, sym, _∙_}
+use mathlib.Core.Bool.{false}
 use Prim.Native.Nat.{_≤_, _-_}
 use native.Mathlib.Omega.{arith}
 use denote.Ref.{now}
@@ -7,9 +8,9 @@ use borrow.Author.Needs.{needs}
 use borrow.Author.Tests.{not-true, not-false}
 use lib.ListN.{length}
 use Rattle.lexing.specs.Tokens.{tokens}
-use Rattle.lexing.specs.Forms.{follow}
+use Rattle.lexing.specs.Forms.{ended, follow}
 use Rattle.lexing.specs.Places.{tokensAt}
-use Rattle.lexing.proofs.lexemes.Places.{tokens-start}
+use Rattle.lexing.proofs.texts.Places.{tokens-start}
 use Rattle.lexing.proofs.readers.Follow.{follow-end, follow-missed, follow-passed}
 use Rattle.lexing.proofs.forms.follow.Statement.{statement}
 use Rattle.lexing.proofs.forms.follow.Tie as tie
@@ -27,6 +28,11 @@ begun : (c : tie.After-start Inv-loop μ-loop) → let a = c .before .before .be
     follow (tokens (now (a .form))) (tokensAt (now (a .s)) (a .c)) ≡ follow (tokensAt (now (a .form)) (c .start .result)) (tokensAt (now (a .s)) (c .before .inside .result))
 begun c = rw (c .start .ensures, tokens-start, c .before .inside .ensures .1)
 
+-- a token of the form is left where the loop goes on
+form-left : (c : tie.Then1 Inv-loop μ-loop) → let loop = c .before .before in let a = loop .before .before .before .before .before .args in
+    ended (tokensAt (now (a .form)) (loop .loop .there)) ≡ false
+form-left c = sym (c .before .ended .ensures) ∙ not-true _ (c .if1 .taken)
+
 inside-requires : tie.Need-inside-requires Inv-loop μ-loop
 inside-requires c κs = tt
 
@@ -35,6 +41,9 @@ start-requires c κs = tt
 
 loop-holds : tie.Need-loop-holds Inv-loop μ-loop
 loop-holds c = (c .before .inside .ensures .0, rw (c .start .ensures) (omega arith), refl)
+
+ended-requires : tie.Need-ended-requires Inv-loop μ-loop
+ended-requires c κs = tt
 
 next-token-requires : tie.Need-next-token-requires Inv-loop μ-loop
 next-token-requires c κs = search needs
@@ -51,11 +60,11 @@ returns c =
     let tokens-read = compared .before in
     let loop = tokens-read .before .before .before .before in
     begun (loop .before) ∙ loop .loop .inv .2
-    ∙ follow-missed (tokens-read .before .before .if1 .taken) (tokens-read .before .next-token .ensures) (tokens-read .next-token2 .ensures)
+    ∙ follow-missed (form-left (tokens-read .before .before)) (tokens-read .before .next-token .ensures) (tokens-read .next-token2 .ensures)
     (sym (compared .same-token .ensures) ∙ not-true _ (c .if2 .taken))
 
 loop-less : tie.Need-loop-less Inv-loop μ-loop
-loop-less c = omega (arith, c .before .before .before .before .before .next-token .ensures .advances (c .before .before .before .before .before .before .if1 .taken))
+loop-less c = let form-read = c .before .before .before .before .before in omega (arith, form-read .next-token .ensures .advances (form-left (form-read .before)))
 
 loop-again : tie.Need-loop-again Inv-loop μ-loop
 loop-again c =
@@ -65,14 +74,14 @@ loop-again c =
       tokens-read .next-token2 .ensures .next-inside,
       tokens-read .before .next-token .ensures .next-inside,
       loop .loop .inv .2
-          ∙ follow-passed (tokens-read .before .before .if1 .taken) (tokens-read .before .next-token .ensures) (tokens-read .next-token2 .ensures)
+          ∙ follow-passed (form-left (tokens-read .before .before)) (tokens-read .before .next-token .ensures) (tokens-read .next-token2 .ensures)
           (sym (compared .same-token .ensures) ∙ not-false _ (c .before .before .if2 .left)),
     )
 
 returns-2 : tie.Need-returns-2 Inv-loop μ-loop
 returns-2 c =
     let loop = c .before .before in
-    (loop .loop .inv .0, begun (loop .before) ∙ loop .loop .inv .2 ∙ follow-end _ _ _ (c .if1 .left))
+    (loop .loop .inv .0, begun (loop .before) ∙ loop .loop .inv .2 ∙ follow-end _ _ (sym (c .before .ended .ensures) ∙ not-false _ (c .if1 .left)))
 
 pub follow-spec : {M : Type 1} → statement M
 follow-spec =
@@ -83,6 +92,7 @@ follow-spec =
     inside-requires
     start-requires
     loop-holds
+    ended-requires
     next-token-requires
     next-token-requires-2
     same-token-requires

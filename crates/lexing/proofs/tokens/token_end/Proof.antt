@@ -1,6 +1,6 @@
--- `tokens::token_end` meets its contract: the laws of a lexeme that is a delimiter, and of one that is a word. Assumes nothing.
+-- `tokens::token_end` meets its contract: the laws of a token that is a delimiter, and of one that is a word. Assumes nothing.
 use mathlib.Core.Path.{sym, _∙_}
-use Rattle.lexing.proofs.lexemes.Lexemes.{delimiter-to, word-to}
+use Rattle.lexing.proofs.texts.Lexing.{delimiter-to, word-to}
 use borrow.Author.Needs.{needs}
 use Rattle.lexing.proofs.tokens.token_end.Statement.{statement}
 use Rattle.lexing.proofs.tokens.token_end.Tie as tie
@@ -22,7 +22,7 @@ word-end-requires c κs = search needs
 
 returns : tie.Need-returns
 returns c =
-    delimiter-to (c .before .before .before .before .pre .0) (sym (c .before .is-delimiter .ensures) ∙ c .if1 .taken)
+    delimiter-to (c .before .before .before .before .pre .0) (c .before .before .before .before .pre .1) (sym (c .before .is-delimiter .ensures) ∙ c .if1 .taken)
 
 returns-2 : tie.Need-returns-2
 returns-2 c =

@@ -5,7 +5,7 @@ use native.Mathlib.Omega.{arith}
 use borrow.Author.Tests.{not-true, not-false}
 use lib.ListN.{length}
 use Rattle.lexing.specs.internal.Lexed.{WordBytes}
-use Rattle.lexing.proofs.lexemes.Lexemes.{words-suc, words-stop, words-end}
+use Rattle.lexing.proofs.texts.Lexing.{word-goes-on, word-stops, word-ends}
 use Rattle.lexing.proofs.tokens.word_end.Statement.{statement}
 use Rattle.lexing.proofs.tokens.word_end.Tie as tie
 
@@ -26,7 +26,7 @@ is-word-byte-requires : tie.Need-is-word-byte-requires Inv-loop μ-loop
 is-word-byte-requires c κs = tt
 
 returns : tie.Need-returns Inv-loop μ-loop
-returns c = words-stop (omega arith) (omega arith) (c .before .before .before .before .loop .inv .2) (sym (c .before .is-word-byte .ensures) ∙ not-true _ (c .if1 .taken))
+returns c = word-stops (omega arith) (omega arith) (c .before .before .before .before .loop .inv .2) (sym (c .before .is-word-byte .ensures) ∙ not-true _ (c .if1 .taken))
 
 add-i : tie.Need-add-i Inv-loop μ-loop
 add-i c = omega arith
@@ -36,10 +36,10 @@ loop-less c = omega arith
 
 loop-again : tie.Need-loop-again Inv-loop μ-loop
 loop-again c =
-    (omega arith, omega arith, words-suc (omega arith) (sym (c .before .is-word-byte .ensures) ∙ not-false _ (c .if1 .left)) (c .before .before .before .before .loop .inv .2))
+    (omega arith, omega arith, word-goes-on (omega arith) (sym (c .before .is-word-byte .ensures) ∙ not-false _ (c .if1 .left)) (c .before .before .before .before .loop .inv .2))
 
 returns-2 : tie.Need-returns-2 Inv-loop μ-loop
-returns-2 c = words-end (omega arith) (omega arith) (omega arith) (c .before .loop .inv .2)
+returns-2 c = word-ends (omega arith) (omega arith) (omega arith) (c .before .loop .inv .2)
 
 pub word-end-spec : {M : Type 1} → statement M
 word-end-spec =
