@@ -4,13 +4,15 @@ ghost use Prim.Native.Nat.{_≤_};
 ghost use lib.ListN.{length};
 ghost use Rattle.sheet.specs.Limits.{InUse};
 ghost use Rattle.sheet.specs.Answers.{after};
+ghost use Rattle.writing.specs.Answered.{answered};
 ghost use Rattle.writing.specs.Filled.{filling, filled};
-ghost use Rattle.printing.specs.Printing.{longestPrinted, printing, answered};
+ghost use Rattle.printing.specs.Printing.{longestPrinted, printing};
 ghost use Rattle.printing.specs.internal.OutcomeText.{outcomeText};
 use crate::lines::put_division;
 use division::Outcome;
 use division::divide;
 use sheet::Table;
+use writing::Answer;
 use writing::put_bytes;
 
 mod cutters;
@@ -18,12 +20,6 @@ mod lines;
 
 // A buffer of so many bytes is long enough for every division.
 pub const LONGEST: usize = 1100;
-
-// The number of the reason why nothing is printed, or the length of the text.
-pub enum Answer {
-    Refused(u8),
-    Printed(usize),
-}
 
 // Prints an outcome; refused with 10 where the buffer is shorter than the text.
 fn print_outcome(
@@ -44,7 +40,7 @@ fn print_outcome(
         return Answer::Refused(10);
     }
     put_bytes(buffer, 0, &text[..length]);
-    Answer::Printed(length)
+    Answer::Written(length)
 }
 
 // Divides a table of marks with these counts and prints the division from the front of the buffer. Refused as by `divide`, else with

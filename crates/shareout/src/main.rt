@@ -1,8 +1,8 @@
 // The program: a sheet on standard input, its division or one line such as `(refused 4)` on standard output.
 use libc::STDIN_FILENO;
 use libc::STDOUT_FILENO;
-use printing::Answer;
 use sheet::Sheet;
+use writing::Answer;
 
 // One byte more than the longest text, so that a longer one is seen to be longer.
 const ROOM: usize = Sheet::LONGEST_TEXT + 1;
@@ -14,7 +14,7 @@ fn main() {
     let answer = sheet_to_division::share_out(&text[..got], &mut buffer);
     match answer {
         Answer::Refused(number) => refuse(number),
-        Answer::Printed(length) => {
+        Answer::Written(length) => {
             io::write_all(STDOUT_FILENO, &buffer[..length]);
         }
     }

@@ -2,10 +2,10 @@
 ghost use mathlib.Core.Path.{_≡_};
 ghost use lib.ListN;
 ghost use Rattle.sheet.specs.Answers.{numberOf, after};
+ghost use Rattle.writing.specs.Answered.{lengthStored};
 ghost use Rattle.writing.specs.Filled.{filled};
 ghost use Rattle.sheet_to_division.specs.ShareOut.{shareOut};
-ghost use Rattle.shareout_c.specs.Lent.{lengthStored};
-use printing::Answer;
+use writing::Answer;
 
 // Prints the division of the sheet that `text` holds into the lent buffer, stores the length printed and answers 0; or answers the
 // number of the refusal and leaves the buffer and the length as they are.
@@ -18,8 +18,8 @@ pub extern "C" fn shareout_text(text: &[u8], buffer: &mut [u8], length: &mut usi
     let answer = sheet_to_division::share_out(text, buffer);
     match answer {
         Answer::Refused(number) => number,
-        Answer::Printed(printed) => {
-            *length = printed;
+        Answer::Written(written) => {
+            *length = written;
             0
         }
     }

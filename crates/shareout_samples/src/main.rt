@@ -1,7 +1,7 @@
 // Divides the sample sheets of document 01: for each, its name and what the program prints.
 use libc::STDOUT_FILENO;
-use printing::Answer;
 use sheet::Sheet;
+use writing::Answer;
 
 // One byte more than the longest text.
 const TOO_LONG: usize = Sheet::LONGEST_TEXT + 1;
@@ -117,7 +117,7 @@ fn show(name: &[u8], text: &[u8]) {
     let answer = sheet_to_division::share_out(text, &mut buffer);
     match answer {
         Answer::Refused(number) => refuse(number),
-        Answer::Printed(length) => print(&buffer[..length]),
+        Answer::Written(length) => print(&buffer[..length]),
     }
 }
 

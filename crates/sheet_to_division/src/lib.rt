@@ -2,10 +2,10 @@
 ghost use mathlib.Core.Path.{_≡_};
 ghost use lib.ListN.{length};
 ghost use Rattle.sheet.specs.Answers.{after};
+ghost use Rattle.writing.specs.Answered.{answered};
 ghost use Rattle.writing.specs.Filled.{filled};
-ghost use Rattle.printing.specs.Printing.{answered};
 ghost use Rattle.sheet_to_division.specs.ShareOut.{shareOut};
-use printing::Answer;
+use writing::Answer;
 
 // Prints the division of the sheet that `text` holds into the lent buffer and answers the length printed, or answers the number of
 // the first reason to turn the sheet down and leaves the buffer as it is.

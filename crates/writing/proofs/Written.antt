@@ -1,11 +1,13 @@
--- A text behind a text is one text; one byte where there is room and where there is none; a text with room is a run of stores.
--- Assumes nothing.
+-- A text behind a text is one text; one byte where there is room and where there is none; a text with room is a run of stores;
+-- the buffer stays as long as it was. Assumes nothing.
 use mathlib.Core.Path.{_≡_, refl, sym, ap, _∙_}
+use mathlib.Core.Bool.{Bool, true, false}
 use mathlib.Core.List.{List, [], _∷_, _++_, foldl, foldl-append}
 use Prim.Native.Nat.{ℕ, suc, _+_, _≤_, _<_}
 use native.Mathlib.Nat.{add-zero}
 use native.Mathlib.Numerals.{add-one}
 use native.Mathlib.Omega.{arith}
+use lib.Dec.{ltb}
 use lib.ListN.{length, set, length-set}
 use lib.Seq.{sets}
 use borrow.Author.Tests.{lt-ltb, le-ltb}
@@ -34,3 +36,15 @@ foldl-sets old at [] room = ap (output old) (sym (add-zero at))
 foldl-sets old at (byte ∷ text) room =
     rw (lt-ltb at (length old) (omega arith), add-one at)
     (foldl-sets (set old at byte) (suc at) text (rw (length-set old at byte) (omega arith)) ∙ ap (output (sets (set old at byte) (suc at) text)) (omega arith))
+
+-- a text leaves the buffer as long as it was
+length-withByte : (p : Output) (byte : ℕ) → length (withByte p byte .bytes) ≡ length (p .bytes)
+length-withByte p byte = step (ltb (p .next) (length (p .bytes))) refl
+  where
+    step : (b : Bool) → ltb (p .next) (length (p .bytes)) ≡ b → length (withByte p byte .bytes) ≡ length (p .bytes)
+    step true e = rw e (length-set (p .bytes) (p .next) byte)
+    step false e = rw e refl
+
+pub length-foldl-withByte : (p : Output) (text : List ℕ) → length (foldl withByte p text .bytes) ≡ length (p .bytes)
+length-foldl-withByte p [] = refl
+length-foldl-withByte p (byte ∷ text) = length-foldl-withByte (withByte p byte) text ∙ length-withByte p byte

@@ -1,8 +1,16 @@
 // Writing into a lent buffer from a place on. Each function returns the place of the byte that comes next; what finds no room is left out.
+ghost use mathlib.Core.Path.{_≡_};
 ghost use mathlib.Core.List.{[], _∷_, _++_};
-ghost use Rattle.text.specs.Decimal.{decimal, spacedNumbers};
+ghost use lib.ListN.{length};
+ghost use Rattle.text.specs.Decimal.{decimal, spacedNumber, spacedNumbers};
 ghost use Rattle.writing.specs.Fields.{group};
 ghost use Rattle.writing.specs.Output.{output, Written};
+
+// What an entry that fills a lent buffer answers: the number of the reason why nothing is written, or the length of the text.
+pub enum Answer {
+    Refused(u8),
+    Written(usize),
+}
 
 // One byte, where there is room.
 pub fn put(buffer: &mut [u8], at: usize, byte: u8) -> usize
@@ -39,6 +47,24 @@ pub fn put_number(buffer: &mut [u8], at: usize, n: u64) -> usize
     put(buffer, next, b'0' + (n % 10) as u8)
 }
 
+// How many digits a number has.
+pub fn number_length(n: u64) -> usize
+    ensures { λ r. ⌜ r ≡ length (decimal n) ⌝ }
+{
+    if n < 10 {
+        return 1;
+    }
+    number_length(n / 10) + 1
+}
+
+// A number behind a space.
+pub fn put_spaced_number(buffer: &mut [u8], at: usize, n: u64) -> usize
+    ensures { λ r. ⌜ Written (output (now (buffer .entry)) at) (spacedNumber n) (output (now (buffer .exit)) r) ⌝ }
+{
+    let next = put(buffer, at, b' ');
+    put_number(buffer, next, n)
+}
+
 // A text and a number behind it.
 pub fn put_field(buffer: &mut [u8], at: usize, text: &[u8], n: u64) -> usize
     ensures { λ r. ⌜ Written (output (now (buffer .entry)) at) (now (text .entry) ++ decimal n) (output (now (buffer .exit)) r) ⌝ }
@@ -54,8 +80,7 @@ pub fn put_spaced(buffer: &mut [u8], at: usize, numbers: &[u8]) -> usize
     let mut next = at;
     let mut i: usize = 0;
     while i < numbers.len() {
-        next = put(buffer, next, b' ');
-        next = put_number(buffer, next, numbers[i] as u64);
+        next = put_spaced_number(buffer, next, numbers[i] as u64);
         i += 1;
     }
     next

@@ -8,7 +8,7 @@ use lib.Seq.{length-take-le}
 use borrow.Author.Tests.{lt-leb, le-leb}
 use Rattle.lists.specs.Lists.{zeros}
 use Rattle.printing.specs.Printing.{longestPrinted}
-use Rattle.printing.specs.declared.Answer.the-variants.{Printed}
+use Rattle.writing.specs.declared.Answer.the-variants.{Written}
 use Rattle.printing.specs.internal.OutcomeText.{outcomeText}
 use Rattle.writing.proofs.Filled.{WholeAtFront, written-whole}
 use borrow.Author.Needs.{needs}
@@ -61,7 +61,7 @@ returns-2 c =
     let w = whole at-text in
     let room : length (textOf start) ≤ length (start .args .buffer .now) = omega (arith, w .reached) in
     let printed = written-whole (rw (w .front) at (at-bytes .put-bytes .ensures)) room in
-    rw (le-leb (length (textOf start)) (length (start .args .buffer .now)) room) (ap Printed (w .reached), printed .bytes-of)
+    rw (le-leb (length (textOf start)) (length (start .args .buffer .now)) room) (ap Written (w .reached), printed .bytes-of)
 
 pub print-outcome-spec : {M : Type 1} → statement M
 print-outcome-spec =

@@ -1,7 +1,9 @@
 -- `shareout::main` is safe and ends: what was printed lies within the buffer. Assumes nothing beyond the kit's input and output.
+use mathlib.Core.Path.{sym, _∙_}
 use lib.ListN.{take, replicate}
 use Rattle.printing.specs.Printing.{longestPrinted}
-use Rattle.sheet_to_division.proofs.Room.{printed-front}
+use Rattle.writing.proofs.Lent.{lent-front}
+use Rattle.sheet_to_division.specs.ShareOut.{shareOut}
 use borrow.Author.Needs.{needs}
 use Rattle.shareout.proofs.main.Statement.{statement}
 use Rattle.shareout.proofs.main.Tie as tie
@@ -37,15 +39,15 @@ array-share-prefix-buffer : tie.Need-array-share-prefix-buffer
 array-share-prefix-buffer c =
     let at-call = c .before .before .before .before in
     let at-read = at-call .before .before .before .before in
-    printed-front (take (at-read .read-full .result) (at-read .read-full .last .1 .0)) (replicate longestPrinted 0)
-    (at-call .share-out .ensures .0) (at-call .share-out .ensures .1) (c .before .answer2 .given .1) .0
+    lent-front (shareOut (take (at-read .read-full .result) (at-read .read-full .last .1 .0)) longestPrinted) (replicate longestPrinted 0)
+    (at-call .share-out .ensures .1) (sym (at-call .share-out .ensures .0) ∙ c .before .answer2 .given .1) .0
 
 slice-aggregate-write-all : tie.Need-slice-aggregate-write-all
 slice-aggregate-write-all c =
     let at-call = c .before .before .before .before .before in
     let at-read = at-call .before .before .before .before in
-    printed-front (take (at-read .read-full .result) (at-read .read-full .last .1 .0)) (replicate longestPrinted 0)
-    (at-call .share-out .ensures .0) (at-call .share-out .ensures .1) (c .before .before .answer2 .given .1) .1
+    lent-front (shareOut (take (at-read .read-full .result) (at-read .read-full .last .1 .0)) longestPrinted) (replicate longestPrinted 0)
+    (at-call .share-out .ensures .1) (sym (at-call .share-out .ensures .0) ∙ c .before .before .answer2 .given .1) .1
 
 write-all-requires : tie.Need-write-all-requires
 write-all-requires c κs = search needs

@@ -1,8 +1,8 @@
 -- `shareout_c::shareout_text` meets its contract, by what `share_out` ensures and the case of its answer. Assumes nothing.
 use mathlib.Core.Path.{sym, _∙_}
 use lib.ListN.{length}
+use Rattle.writing.proofs.Lent.{lent-refused, lent-written}
 use Rattle.sheet_to_division.specs.ShareOut.{shareOut}
-use Rattle.shareout_c.proofs.Lent.{lent-refused, lent-printed}
 use borrow.Author.Needs.{needs}
 use Rattle.shareout_c.proofs.shareout_text.Statement.{statement}
 use Rattle.shareout_c.proofs.shareout_text.Tie as tie
@@ -35,7 +35,7 @@ returns-2 c =
     let at-answer = c .before in
     let at-call = at-answer .before .before .before .before in
     let a = at-call .before .before .before .before .args in
-    let told = lent-printed (shareOut (a .text .now) (length (a .buffer .now))) (at-answer .answer2 .given .0 .0) (a .length .now) (sym (at-call .share-out .ensures .0) ∙ at-answer .answer2 .given .1) in
+    let told = lent-written (shareOut (a .text .now) (length (a .buffer .now))) (at-answer .answer2 .given .0 .0) (a .length .now) (sym (at-call .share-out .ensures .0) ∙ at-answer .answer2 .given .1) in
     (told .0, (at-call .share-out .ensures .1, told .1))
 
 pub shareout-text-spec : {M : Type 1} → statement M

@@ -1,16 +1,22 @@
 -- `share_out` meets its contract, by what reading and printing ensure and the case of reading's answer. Assumes nothing.
-use mathlib.Core.Path.{_≡_, sym, ap, _∙_}
+use mathlib.Core.Path.{sym, ap, _∙_}
+use mathlib.Core.List.{List}
+use Prim.Native.Nat.{ℕ}
 use lib.ListN.{length}
-use Rattle.sheet.specs.Answers.{after}
+use Rattle.sheet.specs.Answers.{Answer, after}
 use Rattle.writing.specs.Filled.{filled}
-use Rattle.reading.specs.Reading.{reading}
-use Rattle.reading.specs.Outcome.{tableIn}
-use Rattle.printing.specs.Printing.{printing, answered}
+use Rattle.reading.specs.Reading.{Contents}
+use Rattle.reading.proofs.Composed.{refused-read, accepted-read}
+use Rattle.writing.specs.Answered.{answered}
+use Rattle.printing.specs.Printing.{printing}
 use Rattle.sheet_to_division.specs.ShareOut.{shareOut}
-use Rattle.sheet_to_division.proofs.Composed.{refused-read, accepted-read}
 use borrow.Author.Needs.{needs}
 use Rattle.sheet_to_division.proofs.share_out.Statement.{statement}
 use Rattle.sheet_to_division.proofs.share_out.Tie as tie
+
+-- what follows reading
+abbrev printingOf : ℕ → Contents → Answer (List ℕ)
+printingOf room sheet = printing (sheet .agents) (sheet .items) (sheet .table) room
 
 read-requires : tie.Need-read-requires
 read-requires c κs = search needs
@@ -32,7 +38,7 @@ unfolding shareOut
 returns c =
     let at-read = c .before .before .before in
     let a = at-read .before .before .before .args in
-    let told = refused-read (length (a .buffer .now)) (reading (a .text .now)) (c .before .answer .given .0 .0) (sym (ap (λ o. o .answer) (at-read .read .ensures)) ∙ c .before .answer .given .1) in
+    let told = refused-read (printingOf (length (a .buffer .now))) (a .text .now) (at-read .read .ensures) (c .before .answer .given .1) in
     (sym (ap answered told), sym (ap (λ p. after filled p (a .buffer .now)) told))
 
 same-length : tie.Need-same-length
@@ -46,12 +52,8 @@ returns-2 c =
     let at-answer = at-table .before .before .before in
     let at-read = at-answer .before .before in
     let a = at-read .before .before .before .args in
-    let counts = at-answer .answer2 .given .0 .0 in
-    let room = length (a .buffer .now) in
-    let told = accepted-read room (reading (a .text .now)) counts (sym (ap (λ o. o .answer) (at-read .read .ensures)) ∙ at-answer .answer2 .given .1) in
-    let same = ap (λ table. printing (counts .agents) (counts .items) table room) (at-table .table .ensures ∙ ap (λ o. tableIn (o .rows)) (at-read .read .ensures)) ∙ sym told in
-    let told-printed : at-print .print-division .result ≡ answered (printing (counts .agents) (counts .items) (at-table .table .result) room) = at-print .print-division .ensures .0 in
-    (told-printed ∙ ap answered same, at-print .print-division .ensures .1 ∙ ap (λ p. after filled p (a .buffer .now)) same)
+    let same = accepted-read (printingOf (length (a .buffer .now))) (a .text .now) (at-read .read .ensures) (at-answer .answer2 .given .1) (at-table .table .ensures) in
+    (at-print .print-division .ensures .0 ∙ ap answered same, at-print .print-division .ensures .1 ∙ ap (λ p. after filled p (a .buffer .now)) same)
 
 pub share-out-spec : {M : Type 1} → statement M
 share-out-spec =

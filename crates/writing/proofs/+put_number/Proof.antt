@@ -1,10 +1,10 @@
 -- The proof of the cycle of calls {put_number}. The measure is the number. Assumes nothing.
-use mathlib.Core.Path.{_≡_, _∙_, subst}
+use mathlib.Core.Path.{_∙_}
 use mathlib.Core.List.{[], _∷_}
-use Prim.Native.Nat.{ℕ, _+_, _*_, _/_, _%_, _≤_, _<_}
+use Prim.Native.Nat.{ℕ, _/_, _%_, _≤_, _<_}
 use native.Mathlib.Omega.{arith}
 use Rattle.text.specs.Decimal.{digit, decimal}
-use Rattle.text.proofs.Decimal.{decimal-digit, decimal-tens}
+use Rattle.text.proofs.Decimal.{decimal-digit, decimal-last}
 use Rattle.writing.specs.Output.{Output, Written}
 use Rattle.writing.proofs.Written.{_then_}
 use borrow.Fn.Kinds.{In}
@@ -22,9 +22,7 @@ digit-written n {p} {q} small w = rw (decimal-digit n small) w
 
 -- a number from ten on is its tens and its last digit
 tens-written : (n : ℕ) {p q r : Output} → 10 ≤ n → Written p (decimal (n / 10)) q → Written q (digit (n % 10) ∷ []) r → Written p (decimal n) r
-tens-written n {p} {q} {r} large tens last =
-    let whole : n / 10 * 10 + n % 10 ≡ n = omega arith in
-    subst (λ k. Written p (decimal k) r) whole (rw (decimal-tens (n / 10) (n % 10) (omega arith) (omega arith)) (tens then last))
+tens-written n {p} {q} {r} ten tens last = rw (decimal-last n ten) (tens then last)
 
 abbrev μ-put-number : Measures 1 put-number-kinds.ps ℕ
 μ-put-number κs a = a .1 .1 .0

@@ -1,14 +1,13 @@
 -- `put_spaced` meets its contract. The loop's invariant: the first i numbers are written. Assumes nothing.
 use mathlib.Core.Path.{_≡_, refl, _∙_}
 use Prim.Native.Nat.{_-_, _≤_}
-use native.Mathlib.Numerals.{add-one}
 use native.Mathlib.Omega.{arith}
-use lib.ListN.{length, take, getD}
-use lib.Seq.{take-suc, take-length}
+use lib.ListN.{length, take}
+use lib.Seq.{take-length}
 use Rattle.text.specs.Decimal.{spacedNumbers}
 use Rattle.writing.specs.Output.{output, Written}
 use Rattle.writing.proofs.Written.{nothing, _then_}
-use Rattle.writing.proofs.Spaced.{spacedNumbers-snoc}
+use Rattle.writing.proofs.Spaced.{spacedNumbers-next}
 use Rattle.writing.proofs.put_spaced.Statement.{statement}
 use Rattle.writing.proofs.put_spaced.Tie as tie
 
@@ -23,19 +22,14 @@ loop-holds : tie.Need-loop-holds Inv-loop μ-loop
 unfolding spacedNumbers
 loop-holds c = (omega arith, refl, nothing)
 
-put-requires : tie.Need-put-requires Inv-loop μ-loop
-put-requires c κs = tt
+shared-slice-read-put-spaced-number : tie.Need-shared-slice-read-put-spaced-number Inv-loop μ-loop
+shared-slice-read-put-spaced-number c = omega arith
 
-shared-slice-read-put-number : tie.Need-shared-slice-read-put-number Inv-loop μ-loop
-shared-slice-read-put-number c = omega arith
+cast-put-spaced-number : tie.Need-cast-put-spaced-number Inv-loop μ-loop
+cast-put-spaced-number c = omega (arith, c .shared-slice-known2 .given (c .before .before .before .loop .i))
 
-cast-put-number : tie.Need-cast-put-number Inv-loop μ-loop
-cast-put-number c =
-    let at-space = c .before .before .before .before in
-    omega (arith, c .shared-slice-known2 .given (at-space .before .before .before .loop .i))
-
-put-number-requires : tie.Need-put-number-requires Inv-loop μ-loop
-put-number-requires c κs = tt
+put-spaced-number-requires : tie.Need-put-spaced-number-requires Inv-loop μ-loop
+put-spaced-number-requires c κs = tt
 
 add-i : tie.Need-add-i Inv-loop μ-loop
 add-i c = omega arith
@@ -46,13 +40,13 @@ loop-less c = omega arith
 loop-again : tie.Need-loop-again Inv-loop μ-loop
 loop-again c =
     let at-number = c .before .before in
-    let at-space = at-number .before .before .before .before .before in
-    let l = at-space .before .before .before .loop in
-    let numbers = at-space .before .before .before .before .before .before .args .numbers .now in (
+    let at-loop = at-number .before .before .before .before in
+    let numbers = at-loop .before .before .before .args .numbers .now in
+    let l = at-loop .loop in (
       omega arith,
-      at-number .put-number .kept .0 ∙ at-space .put .kept .0 ∙ l .inv .1,
-      rw (add-one (l .i), take-suc numbers (l .i) 0 (omega arith), spacedNumbers-snoc (take (l .i) numbers) (getD numbers (l .i) 0))
-          (l .inv .2 then (at-space .put .ensures then at-number .put-number .ensures)),
+      at-number .put-spaced-number .kept .0 ∙ l .inv .1,
+      rw (spacedNumbers-next numbers (l .i) (omega arith))
+          (l .inv .2 then at-number .put-spaced-number .ensures),
     )
 
 same-length : tie.Need-same-length Inv-loop μ-loop
@@ -72,10 +66,9 @@ put-spaced-spec =
     Inv-loop
     μ-loop
     loop-holds
-    put-requires
-    shared-slice-read-put-number
-    cast-put-number
-    put-number-requires
+    shared-slice-read-put-spaced-number
+    cast-put-spaced-number
+    put-spaced-number-requires
     add-i
     loop-less
     loop-again

@@ -1,2 +1,0 @@
--- Laws of what a caller is answered.
-mod Lent

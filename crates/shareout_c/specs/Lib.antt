@@ -1,2 +1,0 @@
--- What a caller by C's calling convention finds in the length that it lent.
-pub mod Lent
