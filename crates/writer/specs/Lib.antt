@@ -1,0 +1,2 @@
+-- What a writer is once a text is written.
+pub mod After
