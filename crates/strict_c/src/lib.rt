@@ -1,0 +1,26 @@
+// From a text to the strict layout for callers in C or Rust, by C's calling convention.
+ghost use mathlib.Core.Path.{_≡_};
+ghost use lib.ListN;
+ghost use Rattle.sheet.specs.Answers.{numberOf, after};
+ghost use Rattle.writing.specs.Answered.{lengthStored};
+ghost use Rattle.writing.specs.Filled.{filled};
+ghost use Rattle.sheet_to_strict.specs.Rewriting.{rewriting};
+use writing::Answer;
+
+// Writes the strict text of the sheet that `text` holds into the lent buffer, stores the length written and answers 0; or answers the
+// number of the refusal and leaves the buffer and the length as they are.
+#[no_mangle]
+pub extern "C" fn strict_text(text: &[u8], buffer: &mut [u8], length: &mut usize) -> u8
+    ensures number { λ r. ⌜ r ≡ numberOf (rewriting (now (text .entry)) (ListN.length (now (buffer .entry)))) ⌝ }
+    ensures buffer { λ _. ⌜ now (buffer .exit) ≡ after filled (rewriting (now (text .entry)) (ListN.length (now (buffer .entry)))) (now (buffer .entry)) ⌝ }
+    ensures length { λ _. ⌜ now (length .exit) ≡ after lengthStored (rewriting (now (text .entry)) (ListN.length (now (buffer .entry)))) (now (length .entry)) ⌝ }
+{
+    let answer = sheet_to_strict::write_strict(text, buffer);
+    match answer {
+        Answer::Refused(number) => number,
+        Answer::Written(written) => {
+            *length = written;
+            0
+        }
+    }
+}

@@ -1,0 +1,2 @@
+-- `internal` has what the contracts of private functions cite.
+pub mod internal

@@ -1,0 +1,32 @@
+// Writing the strict text of a table of marks into a lent buffer (document 01, "The sheet"). Its meaning stands in the specs of strict_text.
+ghost use mathlib.Core.Path.{_≡_};
+ghost use lib.ListN.{length};
+ghost use Rattle.sheet.specs.Answers.{after};
+ghost use Rattle.writing.specs.Answered.{answered};
+ghost use Rattle.writing.specs.Filled.{filling, filled};
+ghost use Rattle.strict_text.specs.StrictText.{strictText};
+use crate::lengths::sheet_length;
+use crate::lines::put_sheet;
+use sheet::Sheet;
+use sheet::Table;
+use writing::Answer;
+
+pub mod lengths;
+pub mod lines;
+
+// A buffer of so many bytes is long enough for every table within the limits: the head, a line for each agent, and the last line.
+pub const LONGEST: usize = 30 + Sheet::AGENTS * (17 + Sheet::ITEMS * (1 + Sheet::MARK_DIGITS)) + 6;
+
+// Writes the strict text of a table with these counts from the front of the buffer; refused with 10 where the buffer is shorter than the
+// text, and then the buffer keeps all its bytes.
+pub fn write_sheet(table: Table, agents: usize, items: usize, buffer: &mut [u8]) -> Answer
+    ensures answer { λ r. ⌜ r ≡ answered (filling (length (now (buffer .entry))) (strictText (record { agents = agents; items = items; table = table }))) ⌝ }
+    ensures buffer { λ _. ⌜ now (buffer .exit) ≡ after filled (filling (length (now (buffer .entry))) (strictText (record { agents = agents; items = items; table = table }))) (now (buffer .entry)) ⌝ }
+{
+    let length = sheet_length(table, agents, items);
+    if buffer.len() < length {
+        return Answer::Refused(10);
+    }
+    put_sheet(buffer, 0, table, agents, items);
+    Answer::Written(length)
+}
