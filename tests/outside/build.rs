@@ -1,7 +1,11 @@
 //! Tells the linker where the libraries stand; only the programs that compare need them.
 
-const LIBRARIES: [(&str, &str); 3] =
-    [("COMPARE", "libshareout_c.a"), ("CUTS", "libcut_c.a"), ("DIVISIONS", "libdivision_c.a")];
+const LIBRARIES: [(&str, &str); 4] = [
+    ("COMPARE", "libshareout_c.a"),
+    ("CUTS", "libcut_c.a"),
+    ("DIVISIONS", "libdivision_c.a"),
+    ("STRICT", "libstrict_c.a"),
+];
 
 fn main() {
     println!("cargo:rerun-if-env-changed=SHAREOUT_LIB_DIR");

@@ -43,7 +43,7 @@ fn several_reasons(generator: &mut Generator, _: &[u8]) -> Vec<u8> {
     let pieces = either("2", "13");
     let close = either(")", "");
     let mark = either("6", "70000");
-    let marks = either("3 4", "3  4");
+    let marks = either("3 4", "3 04");
     let end = either("(end)", "(End)");
     let filling = either("", &spaces);
     let head = format!("(sheet (yards {yards}) (pieces {pieces}){close}\n");

@@ -1,13 +1,29 @@
-//! Holds an entry of the library against the solver, one text at a time: the answer, the lent length,
+//! Holds an entry of the library against a solver, one text at a time: the answer, the lent length,
 //! and every byte of the lent buffer and of the memory on both sides of it.
 
+mod difference;
+
 use crate::kinds::Kinds;
-use crate::met::Met;
-use crate::printer::print;
-use crate::reader::read;
+use difference::difference;
 
 /// Text, lent buffer and lent length; answers the refusal's number, or 0 with the printed length stored.
 pub type Entry<'a> = &'a dyn Fn(&[u8], &mut [u8], &mut usize) -> u8;
+
+/// What is due for a text: the text to be printed, or the refusal's number.
+#[derive(Clone, Debug, PartialEq)]
+pub enum Due {
+    Text(Vec<u8>),
+    Refused(u8),
+}
+
+/// Knows what is due for each text.
+pub trait Solver {
+    /// Whether a text that is due for some text is due for itself.
+    const GIVES_ITSELF: bool;
+
+    /// An error is a fault of the solver.
+    fn solve(&mut self, text: &[u8]) -> Result<Due, String>;
+}
 
 /// The refusal's number or 0, and what the lent length and the memory about the buffer hold.
 #[derive(Clone, PartialEq)]
@@ -17,7 +33,7 @@ struct Answer {
     memory: Vec<u8>,
 }
 
-/// The printed division of the greatest sheet is shorter than this.
+/// What is printed of the greatest sheet is shorter than this.
 const LARGE_BUFFER: usize = 2_048;
 const MARGIN: usize = 64;
 /// What the lent length holds before a call: no printed text is as long.
@@ -27,69 +43,71 @@ const UNPRINTED_LENGTH: usize = 7_777_777;
 pub struct Counts {
     pub texts: usize,
     pub calls: usize,
-    pub met: Met,
     pub kinds: Kinds,
 }
 
-/// Which buffers to lend: a large one, or also one that just fits, some too short, and an empty one.
-#[derive(Clone, Copy, PartialEq)]
+/// Which buffers to lend: a large one; or also one that just fits, some too short, and an empty one;
+/// or one of every length from 0 to one more than what is printed.
+#[derive(Clone, Copy)]
 pub enum Buffers {
     Large,
     Several,
+    Every,
 }
 
-pub struct Harness<'a> {
+impl Buffers {
+    fn lengths(self, fitting: usize) -> Vec<usize> {
+        match self {
+            Buffers::Large => vec![LARGE_BUFFER],
+            Buffers::Several => {
+                vec![LARGE_BUFFER, fitting, fitting.saturating_sub(1), fitting / 2, 0]
+            }
+            Buffers::Every => (0..=fitting + 1).collect(),
+        }
+    }
+}
+
+pub struct Harness<'a, S> {
     entry: Entry<'a>,
+    pub solver: S,
     pub counts: Counts,
 }
 
-impl<'a> Harness<'a> {
-    pub fn new(entry: Entry<'a>) -> Harness<'a> {
-        Harness { entry, counts: Counts::default() }
+impl<'a, S: Solver + Default> Harness<'a, S> {
+    pub fn new(entry: Entry<'a>) -> Harness<'a, S> {
+        Harness { entry, solver: S::default(), counts: Counts::default() }
     }
 
-    /// Runs one text; an error shows the text with what was due and what came.
-    pub fn check(&mut self, text: &[u8], buffers: Buffers) -> Result<(), String> {
-        let solution = self.solve(text)?;
-        let fitting = solution.as_ref().map_or(0, Vec::len);
-        let mut lengths = vec![LARGE_BUFFER];
-        if buffers == Buffers::Several {
-            lengths.extend([fitting, fitting.saturating_sub(1), fitting / 2, 0]);
-        }
-        for lent in lengths {
-            self.call(text, &solution, lent)?;
-        }
-        Ok(())
-    }
-
-    /// The solver's answer, counted.
-    fn solve(&mut self, text: &[u8]) -> Result<Result<Vec<u8>, u8>, String> {
+    /// Runs one text and gives what was due; an error shows the text with what was due and what came.
+    pub fn check(&mut self, text: &[u8], buffers: Buffers) -> Result<Due, String> {
+        let due = self.solver.solve(text)?;
         self.counts.texts += 1;
-        let sheet = match read(text) {
-            Ok(sheet) => sheet,
-            Err(refusal) => {
-                self.counts.kinds.count("refusal", refusal as usize);
-                return Ok(Err(refusal));
+        let fitting = match &due {
+            Due::Text(printed) => printed.len(),
+            Due::Refused(refusal) => {
+                self.counts.kinds.count("refusal", *refusal as usize);
+                0
             }
         };
-        let division = self.counts.met.divide(&sheet)?;
-        Ok(Ok(print(&sheet, &division)))
+        for lent in buffers.lengths(fitting) {
+            self.call(text, &due, lent)?;
+        }
+        match &due {
+            Due::Text(printed) if S::GIVES_ITSELF => self.call(printed, &due, LARGE_BUFFER)?,
+            _ => (),
+        }
+        Ok(due)
     }
 
     /// One call of the entry with a lent buffer of this length.
-    fn call(
-        &mut self,
-        text: &[u8],
-        solution: &Result<Vec<u8>, u8>,
-        lent: usize,
-    ) -> Result<(), String> {
+    fn call(&mut self, text: &[u8], due: &Due, lent: usize) -> Result<(), String> {
         let before = Answer {
             number: 0,
             length: UNPRINTED_LENGTH,
             memory: (0..lent + 2 * MARGIN).map(unprinted_byte).collect(),
         };
-        let due = due(before.clone(), solution, lent);
-        if solution.is_ok() && due.number == 10 {
+        let due = answer_due(before.clone(), due, lent);
+        if due.number == 10 {
             self.counts.kinds.count("refusal", 10);
         }
         let mut came = before;
@@ -104,75 +122,51 @@ impl<'a> Harness<'a> {
 }
 
 /// A refusal keeps what was there before; a printed text stands at the buffer's front.
-fn due(before: Answer, solution: &Result<Vec<u8>, u8>, lent: usize) -> Answer {
-    match solution {
-        Err(refusal) => Answer { number: *refusal, ..before },
-        Ok(printed) if printed.len() > lent => Answer { number: 10, ..before },
-        Ok(printed) => {
-            let mut due = Answer { length: printed.len(), ..before };
-            due.memory[MARGIN..MARGIN + printed.len()].copy_from_slice(printed);
-            due
+fn answer_due(before: Answer, due: &Due, lent: usize) -> Answer {
+    match due {
+        Due::Refused(refusal) => Answer { number: *refusal, ..before },
+        Due::Text(printed) if printed.len() > lent => Answer { number: 10, ..before },
+        Due::Text(printed) => {
+            let mut answer = Answer { length: printed.len(), ..before };
+            answer.memory[MARGIN..MARGIN + printed.len()].copy_from_slice(printed);
+            answer
         }
     }
 }
 
-/// A byte that no text of a division has, another one at each of 127 places in turn.
+/// A byte that no printed text has, another one at each of 127 places in turn.
 fn unprinted_byte(place: usize) -> u8 {
     128 + (place % 127) as u8
 }
 
-/// Line feeds are kept, other bytes outside ASCII text are written as escapes.
-fn shown(bytes: &[u8]) -> String {
-    bytes.escape_ascii().to_string().replace("\\n", "\n")
-}
-
-/// The bytes up to the last one that is not as it was before the call.
-fn written(memory: &[u8]) -> &[u8] {
-    let as_before = |place: &usize| memory[*place] == unprinted_byte(*place);
-    let end = (0..memory.len()).rev().find(|place| !as_before(place)).map_or(0, |last| last + 1);
-    &memory[MARGIN.min(end)..end]
-}
-
-fn difference(text: &[u8], lent: usize, due: &Answer, came: &Answer) -> String {
-    let other = (0..due.memory.len()).find(|place| due.memory[*place] != came.memory[*place]);
-    let place = other.map_or("none".to_owned(), |place| (place as i64 - MARGIN as i64).to_string());
-    format!(
-        "a difference\n--- text of {} bytes\n{}\n--- lent buffer of {lent} bytes\n\
-         --- answer due {}, came {}\n--- length due {}, came {}\n\
-         --- first other byte of the buffer: {place}\n\
-         --- bytes due\n{}\n--- bytes that came\n{}",
-        text.len(),
-        shown(text),
-        due.number,
-        came.number,
-        due.length,
-        came.length,
-        shown(written(&due.memory)),
-        shown(written(&came.memory)),
-    )
+/// Answers as a library should whose text, or refusal, is this one.
+#[cfg(test)]
+pub fn filled(solution: Result<Vec<u8>, u8>, buffer: &mut [u8], length: &mut usize) -> u8 {
+    match solution {
+        Err(refusal) => refusal,
+        Ok(printed) if printed.len() > buffer.len() => 10,
+        Ok(printed) => {
+            buffer[..printed.len()].copy_from_slice(&printed);
+            *length = printed.len();
+            0
+        }
+    }
 }
 
 #[cfg(test)]
 mod tests {
-    use super::{Buffers, Entry, Harness};
+    use super::{filled, Buffers, Due, Entry, Harness, Solver};
+    use crate::met::Met;
     use crate::printer::shareout;
     use crate::samples::{texts_of_j, SHEETS};
 
     /// Answers as the library should.
     fn right(text: &[u8], buffer: &mut [u8], length: &mut usize) -> u8 {
-        match shareout(text) {
-            Err(refusal) => refusal,
-            Ok(printed) if printed.len() > buffer.len() => 10,
-            Ok(printed) => {
-                buffer[..printed.len()].copy_from_slice(&printed);
-                *length = printed.len();
-                0
-            }
-        }
+        filled(shareout(text), buffer, length)
     }
 
     fn samples_pass(entry: Entry) -> bool {
-        let mut harness = Harness::new(entry);
+        let mut harness = Harness::<Met>::new(entry);
         let sheets = SHEETS.iter().map(|(_, text, _)| text.as_bytes().to_vec());
         let mut texts = sheets.chain(texts_of_j().into_iter().map(|(text, _)| text));
         texts.all(|text| harness.check(&text, Buffers::Several).is_ok())
@@ -234,5 +228,39 @@ mod tests {
         }
         assert!(samples_pass(&replacing(9, 0)));
         assert!(!samples_pass(&|_: &[u8], _: &mut [u8], _: &mut usize| 3));
+    }
+
+    #[test]
+    fn the_buffers_have_the_lengths_they_are_named_for() {
+        assert_eq!(Buffers::Several.lengths(9), [2_048, 9, 8, 4, 0]);
+        assert_eq!(Buffers::Every.lengths(3), [0, 1, 2, 3, 4]);
+        assert_eq!(Buffers::Every.lengths(0), [0, 1]);
+    }
+
+    /// The first letter of a text, or refusal 3.
+    #[derive(Default)]
+    struct FirstLetter;
+
+    impl Solver for FirstLetter {
+        const GIVES_ITSELF: bool = true;
+
+        fn solve(&mut self, text: &[u8]) -> Result<Due, String> {
+            Ok(text.first().map_or(Due::Refused(3), |letter| Due::Text(vec![*letter])))
+        }
+    }
+
+    #[test]
+    fn a_text_that_is_not_given_for_itself_is_found() {
+        let first = |text: &[u8]| text.first().map(|letter| vec![*letter]).ok_or(3);
+        let right = |text: &[u8], buffer: &mut [u8], length: &mut usize| {
+            filled(first(text), buffer, length)
+        };
+        let wrong = |text: &[u8], buffer: &mut [u8], length: &mut usize| match text.len() {
+            1 => 3,
+            _ => right(text, buffer, length),
+        };
+        let check = |entry| Harness::<FirstLetter>::new(entry).check(b"ab", Buffers::Large);
+        assert_eq!(check(&right), Ok(Due::Text(b"a".to_vec())));
+        assert!(check(&wrong).is_err());
     }
 }

@@ -20,6 +20,11 @@ impl Kinds {
         self.0.get(name).map_or(0, |numbers| numbers.values().sum())
     }
 
+    /// How often this kind was met.
+    pub fn times(&self, name: &str, number: usize) -> usize {
+        self.0.get(name).and_then(|numbers| numbers.get(&number)).copied().unwrap_or(0)
+    }
+
     /// A line for each name.
     pub fn print(&self) {
         for (name, numbers) in &self.0 {
@@ -49,6 +54,8 @@ mod tests {
         assert_eq!(kinds.all_met("refusal", [4]), Err("never met: refusal 4".to_owned()));
         [4, 5, 4].into_iter().for_each(|number| kinds.count("refusal", number));
         assert_eq!(kinds.met("refusal"), 3);
+        assert_eq!([4, 5, 6].map(|number| kinds.times("refusal", number)), [2, 1, 0]);
+        assert_eq!(kinds.times("grade", 4), 0);
         assert_eq!(kinds.all_met("refusal", [4, 5]), Ok(()));
         assert_eq!(kinds.all_met("refusal", 4..=6), Err("never met: refusal 6".to_owned()));
     }

@@ -1,5 +1,6 @@
-//! A solver for document 01 that shares no code with the library it is held against and finds shares,
-//! cuts, waiting sets and servings by other methods.
+//! A solver for document 01, with order 1 of document 02, that shares no code with the library it is
+//! held against, reads by rewriting lines, and finds shares, cuts, waiting sets and servings by other
+//! methods.
 //! Yards (agents) and pieces (items) are counted from 0 inside, and from 1 in texts.
 
 pub mod cuts;
@@ -12,8 +13,10 @@ pub mod harness;
 pub mod kinds;
 pub mod limits;
 pub mod met;
+pub mod parts;
 pub mod piles;
 pub mod printer;
+pub mod progress;
 pub mod promise;
 pub mod ratio;
 pub mod reader;
@@ -22,6 +25,10 @@ pub mod samples;
 pub mod serving;
 pub mod sets;
 pub mod share;
+pub mod spelling;
+pub mod strict;
 pub mod tables;
 pub mod ties;
+pub mod typed;
 pub mod verdict;
+pub mod writer;

@@ -1,9 +1,11 @@
 //! The kinds of divisions that a comparison has met, and whether it has met all it must.
 
 use crate::division::{divide, Division};
+use crate::harness::{Due, Solver};
 use crate::kinds::Kinds;
+use crate::printer::print;
 use crate::promise::keeps_promise;
-use crate::reader::Sheet;
+use crate::reader::{read, Sheet};
 use crate::ties;
 
 /// So many divisions must have several largest waiting sets in some round.
@@ -49,6 +51,17 @@ impl Met {
         match self.tied < FEWEST_TIES {
             true => Err(format!("divisions with a tie of waiting sets: {}", self.tied)),
             false => Ok(()),
+        }
+    }
+}
+
+impl Solver for Met {
+    const GIVES_ITSELF: bool = false;
+
+    fn solve(&mut self, text: &[u8]) -> Result<Due, String> {
+        match read(text) {
+            Ok(sheet) => Ok(Due::Text(print(&sheet, &self.divide(&sheet)?))),
+            Err(refusal) => Ok(Due::Refused(refusal)),
         }
     }
 }

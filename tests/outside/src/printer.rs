@@ -57,7 +57,7 @@ fn numbers(list: &[usize]) -> String {
 #[cfg(test)]
 mod tests {
     use super::shareout;
-    use crate::samples::{SHEETS, SHEET_A};
+    use crate::samples::{SHEETS, SHEET_A, SHEET_AS_TYPED};
 
     fn printed(sample: &str) -> String {
         let (_, text, _) = SHEETS.into_iter().find(|(name, _, _)| *name == sample).unwrap();
@@ -65,10 +65,11 @@ mod tests {
     }
 
     #[test]
-    fn the_readme_shows_sample_a_and_its_division() {
+    fn the_readme_shows_sample_a_typed_and_strict_and_its_division() {
         let shown = |text: &str| {
             include_str!("../../../README.md").contains(&format!("\n```\n{text}```\n"))
         };
+        assert!(shown(SHEET_AS_TYPED));
         assert!(shown(SHEET_A));
         assert!(shown(&printed("a")));
     }

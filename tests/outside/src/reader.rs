@@ -1,8 +1,10 @@
-//! Reads a sheet (document 01, "The sheet" and refusals 1 to 8) line by line.
-//! A line counts only with its line feed; an answer `Err` is the refusal's number.
+//! Reads a sheet (document 01, "The sheet" and refusals 1 to 8) line by line, in the spelling that
+//! order 1 leaves. A line counts only with its line feed; an answer `Err` is the refusal's number.
 
 use crate::limits::{GREATEST_MARK, LONGEST_TEXT, MOST_PIECES, MOST_YARDS};
+use crate::spelling::strict_spelling;
 
+#[derive(Debug, PartialEq)]
 pub struct Sheet {
     pub yards: usize,
     pub pieces: usize,
@@ -17,7 +19,8 @@ impl Sheet {
     }
 }
 
-/// "Each is looked for over the whole input before the following one."
+/// "Each is looked for over the whole input before the following one." Of order 1: "Layout is judged
+/// after that; refusals 1 and 2 count the bytes as typed."
 pub fn read(text: &[u8]) -> Result<Sheet, u8> {
     if text.len() > LONGEST_TEXT {
         return Err(1);
@@ -25,7 +28,8 @@ pub fn read(text: &[u8]) -> Result<Sheet, u8> {
     if text.is_empty() {
         return Err(2);
     }
-    let (head, mut rest) = first_line(text).ok_or(3)?;
+    let text = strict_spelling(text);
+    let (head, mut rest) = first_line(&text).ok_or(3)?;
     let (yards, pieces) = head_line(head).ok_or(3)?;
     if !(1..=MOST_YARDS).contains(&yards) {
         return Err(4);
@@ -86,6 +90,7 @@ fn number(word: &[u8], most_digits: usize) -> Option<u64> {
 #[cfg(test)]
 mod tests {
     use super::read;
+    use crate::limits::LONGEST_TEXT;
     use crate::samples::{texts_of_j, SHEET_A};
 
     fn refusal(text: &str) -> u8 {
@@ -109,7 +114,6 @@ mod tests {
     #[test]
     fn each_refusal_has_its_place() {
         assert_eq!(refusal(""), 2);
-        assert_eq!(refusal("\n"), 3);
         assert_eq!(refusal("(sheet (yards 2) (pieces 3))"), 3);
         assert_eq!(refusal("(sheet (yards 02) (pieces 3))\n"), 3);
         assert_eq!(refusal("(sheet (yards 1000) (pieces 3))\n"), 3);
@@ -117,9 +121,67 @@ mod tests {
         assert_eq!(refusal("(sheet (yards 2) (pieces 3))\n"), 6);
         assert_eq!(refusal(&SHEET_A.replace("yard 2", "yard 1")), 6);
         assert_eq!(refusal(&SHEET_A.replace("6 2 2", "6 2")), 6);
-        assert_eq!(refusal(&SHEET_A.replace("5 3 4", "5  3 4")), 6);
+        assert_eq!(refusal(&SHEET_A.replace("5 3 4", "5 03 4")), 6);
         assert_eq!(refusal(SHEET_A.trim_end()), 7);
-        assert_eq!(refusal(&(SHEET_A.to_owned() + "\n")), 7);
+        assert_eq!(refusal(&(SHEET_A.to_owned() + "x\n")), 7);
         assert_eq!(refusal(&SHEET_A.replace("5 3 4", "70000 3 4").replace("(end)", "(END)")), 7);
+    }
+
+    /// Sheet a with this change carries the same counts and marks.
+    fn same_sheet(old: &str, new: &str) -> bool {
+        read(SHEET_A.replace(old, new).as_bytes()) == read(SHEET_A.as_bytes())
+    }
+
+    #[test]
+    fn spaces_count_for_nothing_between_tokens() {
+        assert!(same_sheet("(sheet (yards 2) (pieces 3))", "( sheet(yards 2) (pieces  3 ))"));
+        assert!(same_sheet("5 3 4", "  5  3   4 "));
+        assert!(same_sheet("\n", "  \n  "));
+        assert!(!same_sheet("5 3 4", "53 4"));
+        assert!(!same_sheet("(yard 1", "(ya rd 1"));
+    }
+
+    #[test]
+    fn a_tab_or_a_carriage_return_is_a_byte_of_a_word() {
+        assert_eq!(refusal(&SHEET_A.replace("(sheet ", "(sheet\t")), 3);
+        assert_eq!(refusal(&SHEET_A.replace("5 3 4", "5\t3 4")), 6);
+        assert_eq!(refusal(&SHEET_A.replace("(end)", "(end)\r")), 7);
+        assert_eq!(refusal(&SHEET_A.replace("(end)", "\t\n(end)")), 7);
+    }
+
+    #[test]
+    fn remarks_and_blank_lines_count_for_nothing() {
+        assert!(same_sheet("\n", " ; (end)\n"));
+        assert!(same_sheet("(end)\n", "\n  \n;;\n(end);(end)\n\n"));
+        assert!(same_sheet("(sheet", "; (sheet\n\n(sheet"));
+        assert!(!same_sheet("5 3 4))", "5 3 4 ; ))"));
+        assert!(!same_sheet("\n(yard 2", ";(yard 2"));
+    }
+
+    #[test]
+    fn a_text_of_spaces_and_remarks_has_no_head() {
+        for text in ["\n", " ", ";", "; (sheet (yards 2) (pieces 3))\n", " \n\n  ; remark"] {
+            assert_eq!(refusal(text), 3, "{text:?}");
+        }
+    }
+
+    #[test]
+    fn an_unended_last_line_is_dropped_or_malformed() {
+        assert!(same_sheet("(end)\n", "(end)\n; thanks"));
+        assert!(same_sheet("(end)\n", "(end)\n  "));
+        assert_eq!(refusal(&SHEET_A.replace("(end)\n", "(end) ; thanks")), 7);
+        assert_eq!(refusal(&SHEET_A.replace("(end)\n", "(end)\nx")), 7);
+        assert_eq!(refusal("(sheet (yards 2) (pieces 3)) ; marks to come"), 3);
+        assert_eq!(refusal("(sheet (yards 2) (pieces 3))\n(yard 1 (marks 5 3 4))"), 6);
+    }
+
+    #[test]
+    fn the_bytes_are_counted_as_typed() {
+        for filling in [" ", "\n", ";", ";\n", ";("] {
+            let mut text = SHEET_A.to_owned() + &filling.repeat(LONGEST_TEXT);
+            text.truncate(LONGEST_TEXT);
+            assert_eq!(refusal(&text), 0, "{filling:?}");
+            assert_eq!(refusal(&(text + " ")), 1, "{filling:?}");
+        }
     }
 }

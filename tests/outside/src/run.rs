@@ -1,88 +1,47 @@
-//! The whole comparison: samples, all small tables, damaged texts, random tables; and the counts.
+//! The comparison of the whole box: samples, all small tables, damaged texts, texts as yards type
+//! them, random tables; and the counts.
 
-use std::time::Instant;
-
-use crate::damage::{one_byte_away, KINDS};
-use crate::generator::Generator;
-use crate::harness::{Buffers, Entry, Harness};
-use crate::reader::Sheet;
-use crate::samples::{texts_of_j, SHEETS, SHEET_A};
-use crate::tables::{all_small, any, random, strict_text};
+use crate::damage;
+use crate::harness::{Entry, Harness};
+use crate::met::Met;
+use crate::parts::{self, SEVERAL_BUFFERS};
+use crate::progress::Progress;
+use crate::samples::{SHEET_A, SHEET_AS_TYPED};
+use crate::tables::{all_small, random};
+use crate::typed;
 
 const OF_EACH_DAMAGE: usize = 5_000;
-/// Among random tables and damaged texts, one in so many is run with several buffers.
-const SEVERAL_BUFFERS: usize = 5;
+const OF_EACH_TYPING: usize = 1_000;
+/// So many texts of each kind of typing must be met, and of either outcome that it has.
+const FEWEST_TYPED: usize = 50;
 
 /// Prints how many of each were run; an error is the first difference, or a kind that was never met.
 pub fn run(entry: Entry) -> Result<(), String> {
-    let start = Instant::now();
-    let mut harness = Harness::new(entry);
-    let passed = |part: &str, number: usize| {
-        println!("{part:<54}{number:>9}  after {:.1} s", start.elapsed().as_secs_f64())
-    };
-    passed("sample sheets", samples(&mut harness)?);
-    passed("all small tables", sheets(&mut harness, all_small(), 1)?);
-    passed("damaged texts, all one byte away from sample a", all_one_byte_away(&mut harness)?);
-    for (kind, (name, _)) in KINDS.iter().enumerate() {
-        let number = damaged_texts(&mut harness, kind)?;
-        passed(&format!("damaged texts, {name}"), number);
+    let progress = Progress::start();
+    let mut harness = Harness::<Met>::new(entry);
+    progress.passed("sample sheets", parts::samples(&mut harness)?);
+    progress.passed("all small tables", parts::sheets(&mut harness, all_small(), 1)?);
+    for (name, text) in [("a", SHEET_A), ("a as typed", SHEET_AS_TYPED)] {
+        let number = parts::one_byte_away(&mut harness, text)?;
+        progress.passed(&format!("texts, all one byte away from sample {name}"), number);
+    }
+    for (kind, (name, _)) in damage::KINDS.iter().enumerate() {
+        let number = parts::damaged(&mut harness, kind, OF_EACH_DAMAGE)?;
+        progress.passed(&format!("damaged texts, {name}"), number);
+    }
+    for (kind, (name, _, _)) in typed::KINDS.iter().enumerate() {
+        let number = parts::typed(&mut harness, kind, OF_EACH_TYPING)?;
+        progress.passed(&format!("typed texts, {name}"), number);
     }
     for (name, tables) in random() {
-        let number = sheets(&mut harness, tables.into_iter(), SEVERAL_BUFFERS)?;
-        passed(&format!("random tables, {name}"), number);
+        let number = parts::sheets(&mut harness, tables.into_iter(), SEVERAL_BUFFERS)?;
+        progress.passed(&format!("random tables, {name}"), number);
     }
     let counts = &harness.counts;
     println!("texts {}, calls {}", counts.texts, counts.calls);
     counts.kinds.print();
-    counts.met.print();
+    harness.solver.print();
     counts.kinds.all_met("refusal", (1..=8).chain([10]))?;
-    counts.met.all_met()
-}
-
-fn samples(harness: &mut Harness) -> Result<usize, String> {
-    let before = harness.counts.texts;
-    for (_, text, _) in SHEETS {
-        harness.check(text.as_bytes(), Buffers::Several)?;
-    }
-    for (text, _) in texts_of_j() {
-        harness.check(&text, Buffers::Several)?;
-    }
-    Ok(harness.counts.texts - before)
-}
-
-fn buffers(number: usize, several: usize) -> Buffers {
-    match number % several {
-        0 => Buffers::Several,
-        _ => Buffers::Large,
-    }
-}
-
-fn sheets(
-    harness: &mut Harness,
-    sheets: impl Iterator<Item = Sheet>,
-    several: usize,
-) -> Result<usize, String> {
-    let before = harness.counts.texts;
-    for (number, sheet) in sheets.enumerate() {
-        harness.check(&strict_text(&sheet), buffers(number, several))?;
-    }
-    Ok(harness.counts.texts - before)
-}
-
-fn all_one_byte_away(harness: &mut Harness) -> Result<usize, String> {
-    let before = harness.counts.texts;
-    for (number, text) in one_byte_away(SHEET_A.as_bytes()).enumerate() {
-        harness.check(&text, buffers(number, SEVERAL_BUFFERS))?;
-    }
-    Ok(harness.counts.texts - before)
-}
-
-fn damaged_texts(harness: &mut Harness, kind: usize) -> Result<usize, String> {
-    let mut generator = Generator::new(1_000 + kind as u64);
-    for number in 0..OF_EACH_DAMAGE {
-        let text = strict_text(&any(&mut generator));
-        let text = KINDS[kind].1(&mut generator, &text);
-        harness.check(&text, buffers(number, SEVERAL_BUFFERS))?;
-    }
-    Ok(OF_EACH_DAMAGE)
+    typed::all_met(&counts.kinds, FEWEST_TYPED)?;
+    harness.solver.all_met()
 }

@@ -1,8 +1,8 @@
-//! The sample sheets of document 01, read from the folder `samples`.
+//! The sample sheets of document 01, and sheets as yards type them, read from the folder `samples`.
 
 use crate::limits::LONGEST_TEXT;
 use crate::reader::Sheet;
-use crate::tables::strict_text;
+use crate::strict::strict_text;
 
 macro_rules! sample {
     ($name:literal) => {
@@ -24,6 +24,22 @@ pub const SHEETS: [(&str, &str, &str); 9] = [
     ("h as two equal rows", sample!("h"), ""),
     ("i", sample!("i"), "[12] [[1, 2, 3]] [1] 1"),
 ];
+
+/// Order 1: name, text, and the strict text of its sheet or the refusal's number.
+pub const TYPED: [(&str, &str, Result<&str, u8>); 3] = [
+    ("typed", SHEET_AS_TYPED, Ok(SHEET_A)),
+    ("typed_larger", sample!("typed_larger"), Ok(LARGER)),
+    ("typed_refused", sample!("typed_refused"), Err(6)),
+];
+
+/// Sheet a with spaces, remarks and blank lines.
+pub const SHEET_AS_TYPED: &str = sample!("typed");
+
+const LARGER: &str = "(sheet (yards 3) (pieces 12))\n\
+    (yard 1 (marks 1200 950 875 400 400 380 60 60 60 45 45 0))\n\
+    (yard 2 (marks 1100 1000 900 420 380 300 75 75 50 50 50 10))\n\
+    (yard 3 (marks 1300 900 900 350 350 350 80 40 40 40 40 40))\n\
+    (end)\n";
 
 /// The texts of sample j, each with its refusal's number, or 0 if it passes.
 pub fn texts_of_j() -> Vec<(Vec<u8>, u8)> {
@@ -48,4 +64,20 @@ fn text_of_ones(yards: usize, pieces: usize, first: &str) -> Vec<u8> {
     let text = strict_text(&Sheet { yards, pieces, marks: vec![vec![1; pieces]; yards] });
     let text = String::from_utf8(text).expect("a strict text has ASCII bytes only");
     text.replacen("(yard 1 (marks 1", &format!("(yard 1 (marks {first}"), 1).into_bytes()
+}
+
+#[cfg(test)]
+mod tests {
+    use super::TYPED;
+
+    #[test]
+    fn every_typed_sample_is_listed() {
+        let folder = concat!(env!("CARGO_MANIFEST_DIR"), "/../../samples");
+        let files = std::fs::read_dir(folder).unwrap().map(|file| file.unwrap().file_name());
+        let names = files.filter_map(|file| file.into_string().ok());
+        let typed = names.filter(|name| name.starts_with("typed"));
+        let mut listed: Vec<String> = typed.collect();
+        listed.sort();
+        assert_eq!(listed, TYPED.map(|(name, _, _)| format!("{name}.sheet")));
+    }
 }

@@ -1,5 +1,5 @@
 //! The tables to compare on: all small ones, the random ones of every family and every count of yards
-//! and pieces, and those with tied waiting sets. Also the strict text of a table.
+//! and pieces, and those with tied waiting sets.
 
 use crate::families::FAMILIES;
 use crate::generator::Generator;
@@ -49,37 +49,13 @@ pub fn any(generator: &mut Generator) -> Sheet {
     Sheet::of(FAMILIES[family].1(generator, yards, pieces))
 }
 
-/// The sheet as document 01 lays it out.
-pub fn strict_text(sheet: &Sheet) -> Vec<u8> {
-    let mut text = format!("(sheet (yards {}) (pieces {}))\n", sheet.yards, sheet.pieces);
-    for (agent, row) in sheet.marks.iter().enumerate() {
-        let marks: Vec<String> = row.iter().map(u64::to_string).collect();
-        text += &format!("(yard {} (marks {}))\n", agent + 1, marks.join(" "));
-    }
-    text += "(end)\n";
-    text.into_bytes()
-}
-
 #[cfg(test)]
 mod tests {
-    use super::{all_small, of_family, strict_text};
-    use crate::families::FAMILIES;
-    use crate::reader::read;
+    use super::all_small;
 
     #[test]
     fn all_small_tables_are_there() {
         let cells = [1, 2, 3, 2, 4, 6, 3, 6, 9];
         assert_eq!(all_small().count(), cells.iter().map(|places| 3usize.pow(*places)).sum());
-    }
-
-    #[test]
-    fn every_random_table_reads_back() {
-        for (family, (name, _)) in FAMILIES.iter().enumerate() {
-            for sheet in of_family(family, 5) {
-                let again = read(&strict_text(&sheet)).expect(name);
-                assert_eq!((again.yards, again.pieces), (sheet.yards, sheet.pieces));
-                assert_eq!(again.marks, sheet.marks);
-            }
-        }
     }
 }

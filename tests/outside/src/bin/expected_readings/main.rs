@@ -1,10 +1,12 @@
 //! Prints what the program `reading_samples` should print: a line for each text, with the answer of
 //! the reader of this package.
 
+mod typed;
+
 use outside::limits::{GREATEST_MARK, MOST_PIECES, MOST_YARDS};
 use outside::reader::{read, Sheet};
 use outside::samples::SHEET_A;
-use outside::tables::strict_text;
+use outside::strict::strict_text;
 
 fn main() {
     samples();
@@ -31,6 +33,7 @@ fn main() {
     heads();
     lines();
     ends();
+    typed::CASES.into_iter().for_each(|(label, text)| show(label, text));
     long();
     damaged();
 }
@@ -114,7 +117,7 @@ fn orders() {
         ),
         ("large mark and no end", format!("{head}(yard 1 (marks 70000))\n(yard 2 (marks 1))\n")),
         (
-            "large mark and text after the end",
+            "large mark and a blank line after the end",
             format!("{head}(yard 1 (marks 1))\n(yard 2 (marks 70000))\n(end)\n\n"),
         ),
         ("large mark alone", format!("{head}(yard 1 (marks 1))\n(yard 2 (marks 70000))\n(end)\n")),
@@ -133,7 +136,7 @@ fn short() {
     show("byte 255 alone", b"\xff");
 }
 
-/// A head that is off the layout, before lines that are right.
+/// Heads in other spellings or off the layout, before lines that are right.
 fn heads() {
     let cases = [
         ("doubled space in the head", "(sheet (yards 1)  (pieces 1))\n"),
@@ -155,7 +158,7 @@ fn heads() {
     }
 }
 
-/// Yard lines that are not as they should be, between a head and an end that are right.
+/// Yard lines in other spellings or off the layout, between a head and an end that are right.
 fn lines() {
     let cases = [
         ("two yard lines", "(yard 1 (marks 5 6))\n(yard 2 (marks 7 8))\n"),

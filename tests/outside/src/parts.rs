@@ -1,0 +1,100 @@
+//! The parts of a comparison from text to text, for any entry and its solver. Each gives the number
+//! of its texts; an error is the first difference.
+
+use crate::damage;
+use crate::generator::Generator;
+use crate::harness::{Buffers, Due, Harness, Solver};
+use crate::reader::Sheet;
+use crate::samples::{texts_of_j, SHEETS, TYPED};
+use crate::strict::strict_text;
+use crate::tables::any;
+use crate::typed;
+
+/// One text in so many is run with several buffers.
+pub const SEVERAL_BUFFERS: usize = 5;
+
+type Passed = Result<usize, String>;
+
+fn buffers(number: usize, several: usize) -> Buffers {
+    match number % several {
+        0 => Buffers::Several,
+        _ => Buffers::Large,
+    }
+}
+
+/// Runs each text; one in so many with several buffers.
+pub fn texts<S: Solver + Default>(
+    harness: &mut Harness<S>,
+    texts: impl Iterator<Item = Vec<u8>>,
+    several: usize,
+) -> Passed {
+    let before = harness.counts.texts;
+    for (number, text) in texts.enumerate() {
+        harness.check(&text, buffers(number, several))?;
+    }
+    Ok(harness.counts.texts - before)
+}
+
+/// The samples of document 01, the typed ones, and the text without a byte.
+pub fn samples<S: Solver + Default>(harness: &mut Harness<S>) -> Passed {
+    let sheets = SHEETS.iter().map(|(_, text, _)| text.as_bytes().to_vec());
+    let typed = TYPED.iter().map(|(_, text, _)| text.as_bytes().to_vec());
+    let of_j = texts_of_j().into_iter().map(|(text, _)| text);
+    texts(harness, sheets.chain(typed).chain(of_j).chain([Vec::new()]), 1)
+}
+
+/// The strict texts of the sheets.
+pub fn sheets<S: Solver + Default>(
+    harness: &mut Harness<S>,
+    sheets: impl Iterator<Item = Sheet>,
+    several: usize,
+) -> Passed {
+    texts(harness, sheets.map(|sheet| strict_text(&sheet)), several)
+}
+
+/// Every text that is one byte away from this one.
+pub fn one_byte_away<S: Solver + Default>(harness: &mut Harness<S>, text: &str) -> Passed {
+    texts(harness, damage::one_byte_away(text.as_bytes()), SEVERAL_BUFFERS)
+}
+
+/// Texts of one kind of damage.
+pub fn damaged<S: Solver + Default>(
+    harness: &mut Harness<S>,
+    kind: usize,
+    number: usize,
+) -> Passed {
+    let mut generator = Generator::new(1_000 + kind as u64);
+    let damaged = (0..number).map(|_| {
+        let text = strict_text(&any(&mut generator));
+        damage::KINDS[kind].1(&mut generator, &text)
+    });
+    texts(harness, damaged, SEVERAL_BUFFERS)
+}
+
+/// Texts of one kind of typing, counted under its name where it altered the text; each must come to
+/// what its kind says.
+pub fn typed<S: Solver + Default>(harness: &mut Harness<S>, kind: usize, number: usize) -> Passed {
+    let (name, outcome, make) = typed::KINDS[kind];
+    let mut generator = Generator::new(2_000 + kind as u64);
+    for number in 0..number {
+        let source = source(&mut generator);
+        let text = make(&mut generator, &source);
+        if !typed::holds(outcome, &source, &text) {
+            return Err(format!("not as its kind says, {name}: {}", text.escape_ascii()));
+        }
+        let due = harness.check(&text, buffers(number, SEVERAL_BUFFERS))?;
+        let refusal = if let Due::Refused(refusal) = due { refusal } else { 0 };
+        if text != source {
+            harness.counts.kinds.count(name, usize::from(refusal));
+        }
+    }
+    Ok(number)
+}
+
+/// The strict text of a random sheet, or of a sample.
+pub fn source(generator: &mut Generator) -> Vec<u8> {
+    match generator.below(4) {
+        0 => generator.choose(&SHEETS).1.as_bytes().to_vec(),
+        _ => strict_text(&any(generator)),
+    }
+}
