@@ -5,6 +5,7 @@ use mathlib.Core.List.{List, _∷_, _++_}
 use mathlib.Core.Bool.{Bool, true, false, not}
 use Prim.Native.Nat.{ℕ}
 use lib.Dec.{eqb}
+use lib.ListN.{replicate}
 use Rattle.lists.specs.Lists.{all}
 use Rattle.lexing.specs.Lines.{lineFeed, space, semicolon}
 use Rattle.lexing.specs.Tokens.{isWordByte, goesOn}
@@ -22,6 +23,6 @@ pub data Respaced : List ℕ → List ℕ → Type 0 where
   -- "A semicolon and what follows it, up to the line feed or the text's end, is dropped"
   remark : (front r behind : List ℕ) → noLineFeed r ≡ true → Respaced (front ++ lineFeed ∷ behind) (front ++ (semicolon ∷ r ++ lineFeed ∷ behind))
   last-remark : (front r : List ℕ) → noLineFeed r ≡ true → Respaced front (front ++ semicolon ∷ r)
-  -- "and so is a line .. left with nothing but spaces"
-  blank-line : (front behind : List ℕ) → Respaced (front ++ lineFeed ∷ behind) (front ++ lineFeed ∷ lineFeed ∷ behind)
-  first-line-blank : (text : List ℕ) → Respaced text (lineFeed ∷ text)
+  -- "and so is a line .. left with nothing but spaces": of so many spaces, behind another line or as the first
+  blank-line : (front : List ℕ) (spaces : ℕ) (behind : List ℕ) → Respaced (front ++ lineFeed ∷ behind) (front ++ (lineFeed ∷ replicate spaces space ++ lineFeed ∷ behind))
+  first-line-blank : (spaces : ℕ) (text : List ℕ) → Respaced text (replicate spaces space ++ lineFeed ∷ text)

@@ -1,4 +1,4 @@
-// Tokens of a text, and readers of forms and numbers at any place of it.
+// Tokens of a text, without its spaces, remarks and blank lines, and readers of forms and numbers at any place of it.
 pub mod forms;
 mod numbers;
 pub mod tokens;

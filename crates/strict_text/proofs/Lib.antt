@@ -1,4 +1,5 @@
--- Both laws of the round trip: the strict text is read back to its table, and an accepted text is the strict text of what it reads to.
+-- The strict text and the reading: the strict text is read back to its table, an accepted text has the tokens of its strict text, and two
+-- accepted texts have the same strict text exactly when they carry the same.
 pub mod Decimal
 pub mod SheetTokens
 pub mod SheetLexed

@@ -1,4 +1,5 @@
-// Writing into a lent buffer from a place on. Each function returns the place of the byte that comes next; what finds no room is left out.
+// Writing into a lent buffer from a place on. Each function that writes returns the place of the byte that comes next; what finds no room
+// is left out.
 ghost use mathlib.Core.Path.{_≡_};
 ghost use mathlib.Core.List.{[], _∷_, _++_};
 ghost use lib.ListN.{length};

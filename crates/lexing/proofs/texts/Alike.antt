@@ -3,7 +3,8 @@
 use mathlib.Core.Path.{_≡_, refl, sym, ap, _∙_}
 use mathlib.Core.List.{List, [], _∷_, _++_, append-nil}
 use mathlib.Core.Bool.{Bool, true, false, not, and-eq-true-iff, true≢false}
-use Prim.Native.Nat.{ℕ}
+use Prim.Native.Nat.{ℕ, zero, suc}
+use lib.ListN.{replicate}
 use lib.Dec.{eqb}
 use borrow.Author.Tests.{eqb-true, not-true}
 use Rattle.lexing.specs.Lines.{lineFeed, space, semicolon}
@@ -98,15 +99,22 @@ last-remark-alike r n =
       same-word = refl;
     }
 
--- a blank line behind a line
-pub blank-line-alike : (s : List ℕ) → Alike (lineFeed ∷ s) (lineFeed ∷ lineFeed ∷ s)
-blank-line-alike s =
+-- a blank line, and one behind another line
+spaces-same : (begun : Bool) (n : ℕ) (s : List ℕ) → tokensAfter begun (replicate n space ++ s) ≡ tokensAfter begun s
+spaces-same begun zero s = refl
+spaces-same begun (suc n) s = tokensAfter-space begun (replicate n space ++ s) ∙ spaces-same begun n s
+
+pub blank-line-same : (n : ℕ) (s : List ℕ) → tokensAfter false (replicate n space ++ lineFeed ∷ s) ≡ tokensAfter false s
+blank-line-same n s = spaces-same false n (lineFeed ∷ s) ∙ tokensAfter-blank-line s
+
+pub blank-line-alike : (n : ℕ) (s : List ℕ) → Alike (lineFeed ∷ s) (lineFeed ∷ replicate n space ++ lineFeed ∷ s)
+blank-line-alike n s =
     record {
       same = same;
-      same-in-remark = λ begun. tokensAfter-remark-line-feed begun s ∙ same begun ∙ sym (tokensAfter-remark-line-feed begun (lineFeed ∷ s));
+      same-in-remark = λ begun. tokensAfter-remark-line-feed begun s ∙ same begun ∙ sym (tokensAfter-remark-line-feed begun (replicate n space ++ lineFeed ∷ s));
       same-word = refl;
     }
   where
-    same : (begun : Bool) → tokensAfter begun (lineFeed ∷ s) ≡ tokensAfter begun (lineFeed ∷ lineFeed ∷ s)
-    same true = rw (tokensAfter-line-feed s, tokensAfter-line-feed (lineFeed ∷ s), tokensAfter-blank-line s)
-    same false = sym (tokensAfter-blank-line (lineFeed ∷ s))
+    same : (begun : Bool) → tokensAfter begun (lineFeed ∷ s) ≡ tokensAfter begun (lineFeed ∷ replicate n space ++ lineFeed ∷ s)
+    same true = rw (tokensAfter-line-feed s, tokensAfter-line-feed (replicate n space ++ lineFeed ∷ s), blank-line-same n s)
+    same false = rw (tokensAfter-blank-line s, tokensAfter-blank-line (replicate n space ++ lineFeed ∷ s), blank-line-same n s)

@@ -21,7 +21,7 @@ pub tokensAfter-fresh : (s : List ℕ) → tokensAfter false s ≡ tokens s
 unfolding tokensAfter tokens
 tokensAfter-fresh s = ap (flatMap lineTokens) (leftAfter-fresh (linesWithoutRemarks s))
 
--- no text has no token
+-- a text without a byte has no token
 pub tokensAfter-nil : (begun : Bool) → tokensAfter begun [] ≡ []
 unfolding tokensAfter lines flatMap
 tokensAfter-nil begun = refl
@@ -108,20 +108,22 @@ goesOn-line (b ∷ bs) = go (eqb b lineFeed) refl (eqb b semicolon) refl
     go false e true f = rw (eqb-true b semicolon f) (in-remark (lines bs))
     go false e false f = rw (lines-byte b bs e f) (on-first (linesWithoutRemarks bs))
 
+-- a byte at the front of the first token makes one where there is none
+pub extended-not-ended : (b : ℕ) (ts : List Token) → ended (extended b ts) ≡ false
+unfolding extended
+extended-not-ended b [] = refl
+extended-not-ended b (t ∷ ts) = refl
+
 -- where a word goes on there is a token
 words-goesOn : (bs : List ℕ) → goesOn bs ≡ true → ended (words bs) ≡ false
-unfolding words extended
+unfolding words
 words-goesOn [] e = absurd (false≢true e)
 words-goesOn (b ∷ bs) e = go (eqb b space) refl (isBracket b || not (goesOn bs)) refl
   where
-    extended-some : (ts : List Token) → ended (extended b ts) ≡ false
-    extended-some [] = refl
-    extended-some (t ∷ ts) = refl
-
     go : (p : Bool) → eqb b space ≡ p → (q : Bool) → (isBracket b || not (goesOn bs)) ≡ q → ended (words (b ∷ bs)) ≡ false
     go true s q f = absurd (false≢true (rw s at e))
     go false s true f = rw (s, f)
-    go false s false f = rw (s, f) (extended-some (words bs))
+    go false s false f = rw (s, f) (extended-not-ended b (words bs))
 
 -- a byte at the front of the first of several tokens
 pub extended-append : (b : ℕ) (ts us : List Token) → ended ts ≡ false → extended b ts ++ us ≡ extended b (ts ++ us)
@@ -147,9 +149,10 @@ module _ (b : ℕ) (n : eqb b space ≡ false) where
   unfolding onFirst lineTokens flatMap words
   tokensOn-token begun [] = rw (kept begun [] false []) (append-nil _ ∙ line-token [] [])
   tokensOn-token begun (l ∷ ls) =
-      let E = cond (l .ended) ((lineFeed ∷ []) ∷ []) [] in
-      let R = flatMap lineTokens (withoutBlankLines ls) in
-      rw (kept begun (l .content) (l .ended) ls, append-assoc (words (l .content)) E R) (append-assoc (words (b ∷ l .content)) E R ∙ line-token (l .content) (E ++ R))
+      let end = cond (l .ended) ((lineFeed ∷ []) ∷ []) [] in
+      let later = flatMap lineTokens (withoutBlankLines ls) in
+      rw (kept begun (l .content) (l .ended) ls, append-assoc (words (l .content)) end later)
+      (append-assoc (words (b ∷ l .content)) end later ∙ line-token (l .content) (end ++ later))
 
   pub tokensAfter-token : (begun : Bool) (bs : List ℕ) → eqb b lineFeed ≡ false → eqb b semicolon ≡ false
       → tokensAfter begun (b ∷ bs) ≡ cond (isBracket b || not (goesOn bs)) ((b ∷ []) ∷ tokensAfter true bs) (extended b (tokensAfter true bs))

@@ -17,7 +17,7 @@ use Rattle.lexing.specs.Forms.{ended}
 use Rattle.lexing.specs.Places.{tokensAfter}
 use Rattle.lexing.specs.internal.Lexed.{isDelimiter, countsForNothing, WordBytes, WordTo, TokenTo}
 use Rattle.lexing.proofs.texts.Kinds.{word-byte, bracket}
-use Rattle.lexing.proofs.texts.Bytewise.{tokensAfter-line-feed, tokensAfter-token}
+use Rattle.lexing.proofs.texts.Bytewise.{tokensAfter-line-feed, extended-not-ended, tokensAfter-token}
 use Rattle.lexing.proofs.texts.Places.{test-inside, test-end}
 
 module _ {s : List ℕ} {from i : ℕ} where
@@ -78,19 +78,14 @@ no-delimiter false false false false u e f = (refl, refl)
 
 -- a byte that counts begins a token
 pub token-begins : (begun : Bool) (b : ℕ) (bs : List ℕ) → countsForNothing begun b ≡ false → ended (tokensAfter begun (b ∷ bs)) ≡ false
-unfolding extended
 token-begins begun b bs n = go (isDelimiter b) refl (goesOn bs) refl
   where
-    extended-not-ended : (ts : List Token) → ended (extended b ts) ≡ false
-    extended-not-ended [] = refl
-    extended-not-ended (t ∷ ts) = refl
-
     word : isDelimiter b ≡ false → isWordByte b ≡ true
     word d = no-delimiter (eqb b space) (isBracket b) (eqb b lineFeed) (eqb b semicolon) (not begun && eqb b lineFeed) n d .0
 
     go : (p : Bool) → isDelimiter b ≡ p → (q : Bool) → goesOn bs ≡ q → ended (tokensAfter begun (b ∷ bs)) ≡ false
     go true d q g = rw (delimiter-token begun b bs n d)
-    go false d true g = rw (front-of-word begun b bs (word d) g) (extended-not-ended (tokensAfter true bs))
+    go false d true g = rw (front-of-word begun b bs (word d) g) (extended-not-ended b (tokensAfter true bs))
     go false d false g = rw (last-of-word begun b bs (word d) g)
 
 -- the token at a delimiter, and at a word
