@@ -1,7 +1,9 @@
 -- `shareout_samples::show` is safe and ends: what was printed lies within the buffer. Assumes nothing beyond the kit's output.
+use mathlib.Core.Path.{sym, _∙_}
 use lib.ListN.{replicate}
 use Rattle.printing.specs.Printing.{longestPrinted}
-use Rattle.sheet_to_division.proofs.Room.{printed-front}
+use Rattle.writing.proofs.Lent.{lent-front}
+use Rattle.sheet_to_division.specs.ShareOut.{shareOut}
 use borrow.Author.Needs.{needs}
 use Rattle.shareout_samples.proofs.show.Statement.{statement}
 use Rattle.shareout_samples.proofs.show.Tie as tie
@@ -27,14 +29,14 @@ enum-known-answer-2 c = search needs
 array-share-prefix-buffer : tie.Need-array-share-prefix-buffer
 array-share-prefix-buffer c =
     let at-call = c .before .before .before .before in
-    printed-front (at-call .before .before .before .before .before .args .text .now) (replicate longestPrinted 0)
-    (at-call .share-out .ensures .0) (at-call .share-out .ensures .1) (c .before .answer2 .given .1) .0
+    lent-front (shareOut (at-call .before .before .before .before .before .args .text .now) longestPrinted) (replicate longestPrinted 0)
+    (at-call .share-out .ensures .1) (sym (at-call .share-out .ensures .0) ∙ c .before .answer2 .given .1) .0
 
 slice-aggregate-print : tie.Need-slice-aggregate-print
 slice-aggregate-print c =
     let at-call = c .before .before .before .before .before in
-    printed-front (at-call .before .before .before .before .before .args .text .now) (replicate longestPrinted 0)
-    (at-call .share-out .ensures .0) (at-call .share-out .ensures .1) (c .before .before .answer2 .given .1) .1
+    lent-front (shareOut (at-call .before .before .before .before .before .args .text .now) longestPrinted) (replicate longestPrinted 0)
+    (at-call .share-out .ensures .1) (sym (at-call .share-out .ensures .0) ∙ c .before .before .answer2 .given .1) .1
 
 print-requires-2 : tie.Need-print-requires-2
 print-requires-2 c κs = search needs
