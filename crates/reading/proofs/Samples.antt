@@ -1,12 +1,13 @@
 -- Sample sheet a of document 01, of its sample j all but the text of 4,097 bytes, and texts as order 1 of document 02 has them, by
 -- computation. Assumes nothing.
 use mathlib.Core.Path.{_≡_, refl}
-use mathlib.Core.List.{List, [], _∷_, map, flatMap}
+use mathlib.Core.List.{List, [], _∷_, _++_, map, flatMap}
+use lib.ListN.{replicate}
 use Prim.Native.Nat.{ℕ}
 use Prim.Native.String.{String}
 use Rattle.sheet.specs.Answers.{Answer, refused, accepted}
 use Rattle.text.specs.Bytes.{bytes}
-use Rattle.lexing.specs.Lines.{onFirst, lines, beforeRemark}
+use Rattle.lexing.specs.Lines.{space, onFirst, lines, beforeRemark}
 use Rattle.lexing.specs.Tokens.{extended, words, lineTokens, tokens}
 use Rattle.lexing.specs.Forms.{follow, inTurn}
 use Rattle.lexing.specs.Numbers.{numberAfter, number, digitsAfter, isNumber}
@@ -57,3 +58,11 @@ samples-read = refl
 pub typed-read : map (λ p. reading (bytes (p .0))) typed ≡ map (λ p. p .1) typed
 unfolding reading endLine yardLine yardTurn head numberAfter number digitsAfter isNumber follow inTurn onFirst lines beforeRemark extended words lineTokens tokens flatMap
 typed-read = refl
+
+-- refusal 1 counts the bytes as typed: sheet a with so many spaces behind it that the text has 4,096 bytes, and 4,097
+abbrev spaced : ℕ → List ℕ
+spaced n = bytes "(sheet (yards 2) (pieces 3))\n(yard 1 (marks 5 3 4))\n(yard 2 (marks 6 2 2))\n(end)\n" ++ replicate n space
+
+pub bytes-counted-as-typed : map reading (spaced 4015 ∷ spaced 4016 ∷ []) ≡ contents 2 3 ((5 ∷ 3 ∷ 4 ∷ []) ∷ (6 ∷ 2 ∷ 2 ∷ []) ∷ []) ∷ refused 1 ∷ []
+unfolding reading endLine yardLine yardTurn head numberAfter number digitsAfter isNumber follow inTurn onFirst lines beforeRemark extended words lineTokens tokens flatMap
+bytes-counted-as-typed = refl

@@ -1,5 +1,5 @@
 -- `share_out` meets its contract, by what reading and printing ensure and the case of reading's answer. Assumes nothing.
-use mathlib.Core.Path.{sym, ap, _∙_}
+use mathlib.Core.Path.{_≡_, sym, ap, _∙_}
 use mathlib.Core.List.{List}
 use Prim.Native.Nat.{ℕ}
 use lib.ListN.{length}
@@ -52,8 +52,11 @@ returns-2 c =
     let at-answer = at-table .before .before .before in
     let at-read = at-answer .before .before in
     let a = at-read .before .before .before .args in
-    let same = accepted-read (printingOf (length (a .buffer .now))) (a .text .now) (at-read .read .ensures) (at-answer .answer2 .given .1) (at-table .table .ensures) in
-    (at-print .print-division .ensures .0 ∙ ap answered same, at-print .print-division .ensures .1 ∙ ap (λ p. after filled p (a .buffer .now)) same)
+    let counts = at-answer .answer2 .given .0 .0 in
+    let room = length (a .buffer .now) in
+    let same = accepted-read (printingOf room) (a .text .now) (at-read .read .ensures) (at-answer .answer2 .given .1) (at-table .table .ensures) in
+    let told : at-print .print-division .result ≡ answered (printing (counts .agents) (counts .items) (at-table .table .result) room) = at-print .print-division .ensures .0 in
+    (told ∙ ap answered same, at-print .print-division .ensures .1 ∙ ap (λ p. after filled p (a .buffer .now)) same)
 
 pub share-out-spec : {M : Type 1} → statement M
 share-out-spec =

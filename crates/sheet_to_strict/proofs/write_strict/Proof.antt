@@ -1,5 +1,5 @@
 -- `write_strict` meets its contract, by what reading and writing ensure and the case of reading's answer. Assumes nothing.
-use mathlib.Core.Path.{sym, ap, _∙_}
+use mathlib.Core.Path.{_≡_, sym, ap, _∙_}
 use mathlib.Core.List.{List}
 use Prim.Native.Nat.{ℕ}
 use lib.ListN.{length}
@@ -52,8 +52,11 @@ returns-2 c =
     let at-answer = at-table .before .before .before in
     let at-read = at-answer .before .before in
     let a = at-read .before .before .before .args in
-    let same = accepted-read (writingOf (length (a .buffer .now))) (a .text .now) (at-read .read .ensures) (at-answer .answer2 .given .1) (at-table .table .ensures) in
-    (at-write .write-sheet .ensures .0 ∙ ap answered same, at-write .write-sheet .ensures .1 ∙ ap (λ p. after filled p (a .buffer .now)) same)
+    let counts = at-answer .answer2 .given .0 .0 in
+    let room = length (a .buffer .now) in
+    let same = accepted-read (writingOf room) (a .text .now) (at-read .read .ensures) (at-answer .answer2 .given .1) (at-table .table .ensures) in
+    let told : at-write .write-sheet .result ≡ answered (writingOf room (record { agents = counts .agents; items = counts .items; table = at-table .table .result })) = at-write .write-sheet .ensures .0 in
+    (told ∙ ap answered same, at-write .write-sheet .ensures .1 ∙ ap (λ p. after filled p (a .buffer .now)) same)
 
 pub write-strict-spec : {M : Type 1} → statement M
 write-strict-spec =
