@@ -13,6 +13,7 @@ use Rattle.writing.specs.Filled.{filling}
 use Rattle.reading.specs.Reading.{Contents, reading}
 use Rattle.strict_text.specs.StrictText.{strictText, longestStrict}
 use Rattle.strict_text.specs.WithinLimits.{WithinLimits}
+use Rattle.strict_text.proofs.Accepted.{accepted-injective}
 use Rattle.strict_text.proofs.RoundTrip.{strictText-read, accepted-read-back, strictText-same-iff}
 use Rattle.sheet_to_strict.specs.Rewriting.{rewriting}
 use Rattle.sheet_to_strict.proofs.Accepted.{accepted-written}
@@ -43,11 +44,8 @@ written-alike-iff s t room room′ text text′ e f =
     let v = written-of t room′ text′ f in
     let alike = strictText-same-iff s t (w .contents) (v .contents) (w .read) (v .read) in (
       λ same. w .read ∙ ap accepted (alike .0 (sym (w .strict) ∙ same ∙ v .strict)) ∙ sym (v .read),
-      λ same. w .strict ∙ alike .1 (carried (w .contents) (v .contents) (sym (w .read) ∙ same ∙ v .read)) ∙ sym (v .strict),
+      λ same. w .strict ∙ alike .1 (accepted-injective (w .contents) (v .contents) (sym (w .read) ∙ same ∙ v .read)) ∙ sym (v .strict),
     )
-  where
-    carried : (c d : Contents) → accepted c ≡ accepted d → c ≡ d
-    carried c d same = cc
 
 -- "the strict text reads back to the sheet it came from"
 pub written-reads-back : (s : List ℕ) (room : ℕ) (text : List ℕ) → rewriting s room ≡ accepted text → reading text ≡ reading s

@@ -27,7 +27,7 @@ use Rattle.strict_text.proofs.Readers.{head-inverse, yardLines-inverse,
 use Rattle.strict_text.proofs.TokensRead.{head-headTokens, yardLines-yardsTokens, endLine-form}
 use Rattle.strict_text.proofs.InUse.{inUse-tableOf, inUse-rows, inUse-places}
 use Rattle.strict_text.proofs.WithinLimits.{agents-bounds, items-bounds, rows-in-use, marks-in-use}
-use Rattle.strict_text.proofs.TextLength.{lines-length}
+use Rattle.strict_text.proofs.TextLength.{length-strictText}
 use Rattle.strict_text.proofs.Accepted.{accepted-injective, accepted-text}
 
 sheetText-nonempty : (agents items : ℕ) (rows : List (List ℕ)) → 0 < length (sheetText agents items rows)
@@ -41,9 +41,8 @@ rowsOf c = inUse (c .agents) (c .items) (c .table)
 module _ (c : Contents) where
   -- the strict text of what is within the limits is no longer than a text may be, and is read to just that
   module _ (w : WithinLimits c) where
-    pub strictText-length : length (strictText c) ≤ longestText
-    unfolding strictText
-    strictText-length = lines-length (c .agents) (c .items) (rowsOf c) (agents-bounds w .1) (items-bounds w .1) (rows-in-use w) (marks-in-use w) (w .marks-allowed)
+    strictText-length : length (strictText c) ≤ longestText
+    strictText-length = omega (arith, length-strictText w)
 
     pub strictText-read : reading (strictText c) ≡ accepted c
     unfolding reading strictText sheetTokens

@@ -1,5 +1,4 @@
--- How long the lines of a strict text are, and the whole: of a table within the limits at most `longestStrict` bytes, and no longer than
--- a text may be. Assumes nothing.
+-- How long the lines of a strict text are, and the whole: of a table within the limits at most `longestStrict` bytes. Assumes nothing.
 use mathlib.Core.Path.{_≡_}
 use mathlib.Core.List.{List, [], _∷_}
 use mathlib.Core.Bool.{true, and-eq-true-iff}
@@ -11,7 +10,7 @@ use Rattle.lists.specs.Lists.{all}
 use Rattle.lists.proofs.members.Each.{AllOfLength}
 use Rattle.text.specs.Decimal.{decimal, spacedNumbers}
 use Rattle.text.proofs.Decimal.{decimal-length}
-use Rattle.sheet.specs.Limits.{mostAgents, mostItems, greatestMark, markDigits, longestText}
+use Rattle.sheet.specs.Limits.{mostItems, greatestMark, markDigits}
 use Rattle.reading.specs.Reading.{Contents, allowed, allowedRow}
 use Rattle.strict_text.specs.StrictText.{headText, yardText, yardTexts, inUse, sheetText, strictText, longestHead, longestYard, longestStrict}
 use Rattle.strict_text.specs.WithinLimits.{WithinLimits}
@@ -45,18 +44,12 @@ yards-length yard items (row ∷ rows) y p l f =
     let this = yard-length yard row (omega arith) (omega (arith, l .0)) (both .0) in
     simp length-append (omega (arith, yards-length (yard + 1) items rows (omega arith) p (l .1) (both .1)))
 
-module _ (agents items : ℕ) (rows : List (List ℕ)) (y : agents ≤ mostAgents) (p : items ≤ mostItems) (n : length rows ≡ agents) (l : AllOfLength items rows)
-    (f : all allowedRow rows ≡ true) where
-  sheet-length : length (sheetText agents items rows) ≤ longestStrict
-  unfolding sheetText
-  sheet-length =
-      simp length-append (omega (arith, head-length agents items (omega arith) (omega arith), yards-length 1 items rows (omega arith) p l f))
-
-  pub lines-length : length (sheetText agents items rows) ≤ longestText
-  lines-length = omega (arith, sheet-length)
-
 -- no strict text of a table within the limits is longer
 pub length-strictText : {c : Contents} → WithinLimits c → length (strictText c) ≤ longestStrict
-unfolding strictText
+unfolding strictText sheetText
 length-strictText {c} w =
-    sheet-length (c .agents) (c .items) (inUse (c .agents) (c .items) (c .table)) (agents-bounds w .1) (items-bounds w .1) (rows-in-use w) (marks-in-use w) (w .marks-allowed)
+    let few = agents-bounds w .1 in
+    let few-items = items-bounds w .1 in
+    let rows = rows-in-use w in
+    simp length-append
+    (omega (arith, head-length (c .agents) (c .items) (omega arith) (omega arith), yards-length 1 (c .items) (inUse (c .agents) (c .items) (c .table)) (omega arith) few-items (marks-in-use w) (w .marks-allowed)))

@@ -12,7 +12,7 @@ use borrow.Author.Tests.{eqb-true}
 use borrow.Author.Count.{below-more}
 use Rattle.lists.proofs.places.Passing.{drop-next}
 use Rattle.lexing.specs.Lines.{lineFeed, space, semicolon}
-use Rattle.lexing.specs.Tokens.{Token, isBracket, isWordByte, goesOn, extended}
+use Rattle.lexing.specs.Tokens.{isBracket, isWordByte, goesOn, extended}
 use Rattle.lexing.specs.Forms.{ended}
 use Rattle.lexing.specs.Places.{tokensAfter}
 use Rattle.lexing.specs.internal.Lexed.{isDelimiter, countsForNothing, WordBytes, WordTo, TokenTo}
