@@ -12,10 +12,11 @@ use Rattle.lists.proofs.members.Counting.{sublist-mem, filter-all}
 use Rattle.sheet.specs.Limits.{mostItems, CountsWithin}
 use Rattle.sheet.specs.Answers.{refused, accepted}
 use Rattle.sheet.specs.Tables.{AgreeInUse}
+use Rattle.sheet.specs.Allocations.{Allocates}
 use Rattle.rounds.specs.Terms.{termsFor}
 use Rattle.rounds.specs.Division.{standardInstance, allocation, divisionOf, divisionByRounds, answer}
 use Rattle.division.specs.Outcome.{outcome}
-use Rattle.division.specs.Promise.{isDivision, bundlesIn, allAgents, satisfiedAgents, Allocates, Promised}
+use Rattle.division.specs.Promise.{isDivision, bundlesIn, allAgents, satisfiedAgents, Promised}
 use Rattle.rounds.proofs.density.Terms.{termsFor-allowed}
 use Rattle.rounds.proofs.Allocation.{length-allocation, allocation-sublist, holds-promised, item-in-one}
 use Rattle.rounds.proofs.Answers.{answer-cases, answer-within-limits}

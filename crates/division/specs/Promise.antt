@@ -3,16 +3,17 @@
 use mathlib.Core.Path.{_≡_}
 use mathlib.Core.Bool.{Bool, true, false, cond}
 use mathlib.Core.Logic.{_↔_}
-use mathlib.Core.List.{List, [], map, List·Memᴰ as Mem}
+use mathlib.Core.List.{List, [], map}
 use Prim.Native.Nat.{ℕ, _*_, _-_, _≤_}
 use lib.Dec.{leb}
 use lib.ListN.{length, take}
-use Rattle.lists.specs.Lists.{range, zeros, filter, nth, count, elem}
+use Rattle.lists.specs.Lists.{range, zeros, filter, nth}
 use Rattle.sheet.specs.Limits.{mostAgents, mostItems}
 use Rattle.sheet.specs.Sets.{itemsOf}
 use Rattle.rounds.specs.Terms.{largestOdd}
 use Rattle.sheet.specs.Valuations.{value}
 use Rattle.sheet.specs.Tables.{valuation}
+use Rattle.sheet.specs.Allocations.{Allocates}
 use Rattle.shares.specs.Shares.{shareOf}
 use Rattle.division.specs.declared.Answer.{Answer}
 use Rattle.division.specs.declared.Answer.the-variants.{Refused, Divided}
@@ -42,12 +43,6 @@ module _ (n m : ℕ) (table : List (List ℕ)) where
   -- "The second list is, rising, the yards holding a pile for which" the promise is kept
   abbrev pub satisfiedAgents : List (List ℕ) → List ℕ
   satisfiedAgents bundles = filter (λ agent. keepsPromise agent (nth [] bundles agent)) (range 1 (length bundles))
-
--- "each piece of the table is in exactly one pile and no pile names any other piece": one bundle for each of n agents, of m items
-pub record Allocates (n m : ℕ) (bundles : List (List ℕ)) : Type 0 where
-  pub bundle-each : length bundles ≡ n
-  pub item-in-one-bundle : (k : ℕ) → 1 ≤ k → k ≤ m → count (elem k) bundles ≡ 1
-  pub no-other-item : (bundle : List ℕ) → Mem bundle bundles → (k : ℕ) → Mem k bundle → (1 ≤ k) × (k ≤ m)
 
 -- what is promised of the answer r to a table of n agents and m items
 pub record Promised (n m : ℕ) (table : List (List ℕ)) (r : Outcome) : Type 0 where

@@ -4,3 +4,4 @@ pub mod Totals
 pub mod LeastOf
 pub mod GreatestOf
 pub mod Exchange
+pub mod Covering
