@@ -10,7 +10,7 @@ use Rattle.sheet.specs.Limits.{mostAgents}
 use Rattle.sheet.specs.Amounts.{eachAtMost}
 use Rattle.sheet.proofs.amounts.Comparing.{eachAtMost-all}
 use Rattle.grading.specs.Grade.{valueTo, envyFree, proportional, maximinFair}
-use Rattle.grading.specs.internal.Compared.{ownValue, greatestValue, evenPart, compared}
+use Rattle.grading.specs.internal.Compared.{ownValue, greatestValue, multipleOfOwn, totalValue, compared}
 
 module _ (n : ℕ) (valuations bundles : List (List ℕ)) where
   own-read : (i : ℕ) → Mem i (range 1 n) → nth 0 (compared n valuations bundles .own) i ≡ ownValue n valuations bundles i
@@ -21,9 +21,13 @@ module _ (n : ℕ) (valuations bundles : List (List ℕ)) where
   unfolding compared
   greatest-read i m = nth-padded-range mostAgents 0 0 (greatestValue n valuations bundles) n m
 
-  even-read : (i : ℕ) → Mem i (range 1 n) → nth 0 (compared n valuations bundles .even) i ≡ evenPart n valuations bundles i
+  multiples-read : (i : ℕ) → Mem i (range 1 n) → nth 0 (compared n valuations bundles .multiples) i ≡ multipleOfOwn n valuations bundles i
   unfolding compared
-  even-read i m = nth-padded-range mostAgents 0 0 (evenPart n valuations bundles) n m
+  multiples-read i m = nth-padded-range mostAgents 0 0 (multipleOfOwn n valuations bundles) n m
+
+  totals-read : (i : ℕ) → Mem i (range 1 n) → nth 0 (compared n valuations bundles .totals) i ≡ totalValue n valuations bundles i
+  unfolding compared
+  totals-read i m = nth-padded-range mostAgents 0 0 (totalValue n valuations bundles) n m
 
   module _ (shares : List ℕ) where
     -- no envy: the greatest value that an agent sees is at most that of its own bundle
@@ -34,12 +38,12 @@ module _ (n : ℕ) (valuations bundles : List (List ℕ)) where
         sym (eachAtMost-all (c .greatest) (c .own) (greatestValue n valuations bundles) (ownValue n valuations bundles) n greatest-read own-read
         ∙ all-cong _ _ (range 1 n) (λ i m. leb-greatestOf (valueTo n valuations [] bundles i) n (ownValue n valuations bundles i)))
 
-    -- even: its total divided by the number of agents is at most that
-    pub proportional-compared : proportional n valuations shares bundles ≡ eachAtMost (compared n valuations bundles .even) (compared n valuations bundles .own) n
+    -- even: its total is at most the number of agents times that
+    pub proportional-compared : proportional n valuations shares bundles ≡ eachAtMost (compared n valuations bundles .totals) (compared n valuations bundles .multiples) n
     unfolding proportional
     proportional-compared =
         let c = compared n valuations bundles in
-        sym (eachAtMost-all (c .even) (c .own) (evenPart n valuations bundles) (ownValue n valuations bundles) n even-read own-read)
+        sym (eachAtMost-all (c .totals) (c .multiples) (totalValue n valuations bundles) (multipleOfOwn n valuations bundles) n totals-read multiples-read)
 
     -- the whole share: its share is at most that
     pub maximinFair-compared : maximinFair n valuations shares bundles ≡ eachAtMost shares (compared n valuations bundles .own) n

@@ -1,7 +1,8 @@
--- "The loft's custom, from the whole division; the first that fits". Assumes nothing: these are definitions.
+-- "The loft's custom, from the whole division; the first that fits", with the even test of document 02, order 2.
+-- Assumes nothing: these are definitions.
 use mathlib.Core.Bool.{Bool, cond}
 use mathlib.Core.List.{List, [], map}
-use Prim.Native.Nat.{ℕ, _/_, min}
+use Prim.Native.Nat.{ℕ, _*_, min}
 use lib.Dec.{leb}
 use Rattle.lists.specs.Lists.{range, nth, all}
 use Rattle.lists.specs.Sums.{total}
@@ -19,9 +20,9 @@ module _ (n : ℕ) (valuations : List (List ℕ)) (shares : List ℕ) (bundles :
   unfoldable pub envyFree : Bool
   envyFree = all (λ i. all (λ j. leb (valueTo i j) (valueTo i i)) (range 1 n)) (range 1 n)
 
-  -- "each pile is worth at least the yard's total divided by N, the quotient rounded down"
+  -- "a division is even when N times the worth of each pile is at least its yard's total"
   unfoldable pub proportional : Bool
-  proportional = all (λ i. leb (total (valuation valuations i) / n) (valueTo i i)) (range 1 n)
+  proportional = all (λ i. leb (total (valuation valuations i)) (n * valueTo i i)) (range 1 n)
 
   -- "each pile reaches its yard's whole maximin share"
   unfoldable pub maximinFair : Bool

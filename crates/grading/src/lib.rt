@@ -3,8 +3,8 @@ ghost use mathlib.Core.Path.{_≡_};
 ghost use mathlib.Core.List.{[], map};
 ghost use Prim.Native.Nat.{_≤_, min, max};
 ghost use Rattle.lists.specs.Lists.{nth};
-ghost use Rattle.lists.specs.Sums.{total, greatestOf};
-ghost use Rattle.sheet.specs.Limits.{mostAgents, mostItems};
+ghost use Rattle.lists.specs.Sums.{greatestOf};
+ghost use Rattle.sheet.specs.Limits.{mostAgents, mostItems, greatestSum};
 ghost use Rattle.sheet.specs.Sets.{itemsOf};
 ghost use Rattle.sheet.specs.Valuations.{value};
 ghost use Rattle.sheet.specs.Tables.{allValues, profile};
@@ -21,25 +21,19 @@ use sheet::naming::all_items;
 use sheet::valuing::value_of;
 
 // What the grade goes by besides the shares, for each agent: the value of its own bundle, the greatest value that it sees in any
-// bundle, and its total divided by the number of agents, rounded down.
+// bundle, the value of its own bundle times the number of agents, and the value of all items.
 struct Compared {
     own: Amounts,
     greatest: Amounts,
-    even: Amounts,
+    multiples: Amounts,
+    totals: Amounts,
 }
 
 // The value of a bundle, without the items above `items`, which are not in use.
 fn value_in_use(valuation: Row, bundle: u16, items: usize) -> u64
-    ensures { λ r. ⌜ r ≡ value (allValues (min items mostItems) valuation) (itemsOf bundle) ⌝ }
+    ensures { λ r. ⌜ (r ≡ value (allValues (min items mostItems) valuation) (itemsOf bundle)) × (r ≤ greatestSum) ⌝ }
 {
     value_of(valuation, bundle % (all_items(items) + 1))
-}
-
-// The value of all items in use.
-fn total_in_use(valuation: Row, items: usize) -> u64
-    ensures { λ r. ⌜ r ≡ total (allValues (min items mostItems) valuation) ⌝ }
-{
-    value_of(valuation, all_items(items))
 }
 
 // The greater of two numbers.
@@ -68,21 +62,27 @@ fn compare(table: Table, agents: usize, items: usize, bundles: Sets) -> Compared
     requires { ⌜ agents ≤ mostAgents ⌝ }
     ensures { λ r. ⌜ r ≡ compared agents (profile agents (min items mostItems) table) (map itemsOf bundles) ⌝ }
 {
+    let all = all_items(items);
     let mut own = [0u64; Sheet::AGENTS];
     let mut greatest = [0u64; Sheet::AGENTS];
-    let mut even = [0u64; Sheet::AGENTS];
+    let mut multiples = [0u64; Sheet::AGENTS];
+    let mut totals = [0u64; Sheet::AGENTS];
     let mut i: usize = 0;
     while i < agents {
         let row = table[i];
-        own[i] = value_in_use(row, bundles[i], items);
+        let bundle = bundles[i];
+        let value = value_in_use(row, bundle, items);
+        own[i] = value;
         greatest[i] = greatest_in_use(row, agents, items, bundles);
-        even[i] = total_in_use(row, items) / agents as u64;
+        multiples[i] = agents as u64 * value;
+        totals[i] = value_of(row, all);
         i += 1;
     }
     Compared {
         own,
         greatest,
-        even,
+        multiples,
+        totals,
     }
 }
 
@@ -98,8 +98,9 @@ pub fn grade_of(table: Table, agents: usize, items: usize, shares: Amounts, bund
     if each_at_most(greatest, own, last) {
         return 1;
     }
-    let even = compared.even;
-    if each_at_most(even, own, last) {
+    let multiples = compared.multiples;
+    let totals = compared.totals;
+    if each_at_most(totals, multiples, last) {
         return 2;
     }
     if each_at_most(shares, own, last) {

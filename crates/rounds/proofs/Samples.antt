@@ -1,4 +1,5 @@
--- The table of terms, refusals 4 and 5, and the starred sheets a to i of document 01 in one table, by computation. Assumes nothing.
+-- The table of terms, refusals 4 and 5, and the starred sheets a to i of document 01 in one table, by computation; b and d have the grade of
+-- document 02, order 2, and a sheet of grade 2 stands behind them. Assumes nothing.
 use mathlib.Core.Path.{_≡_, refl, ap}
 use mathlib.Core.Logic.{_⊎_, inl, inr}
 use mathlib.Core.List.{List, [], _∷_, map}
@@ -79,7 +80,7 @@ starred =
         shares = 1 ∷ 6 ∷ 2 ∷ [];
         cuts = (1 ∷ 1 ∷ 2 ∷ 3 ∷ []) ∷ (1 ∷ 2 ∷ 3 ∷ 3 ∷ []) ∷ (1 ∷ 1 ∷ 2 ∷ 3 ∷ []) ∷ [];
         cutters = 1 ∷ 2 ∷ [];
-        grade = 2;
+        grade = 3;
       };
     })
     -- c
@@ -105,7 +106,7 @@ starred =
         shares = 1 ∷ 8 ∷ 1 ∷ [];
         cuts = (1 ∷ 1 ∷ 2 ∷ 3 ∷ []) ∷ (1 ∷ 2 ∷ 3 ∷ 3 ∷ []) ∷ (1 ∷ 1 ∷ 2 ∷ 3 ∷ []) ∷ [];
         cutters = 1 ∷ 2 ∷ [];
-        grade = 2;
+        grade = 3;
       };
     })
     -- e
@@ -149,6 +150,19 @@ starred =
         cuts = (1 ∷ 1 ∷ 1 ∷ []) ∷ [];
         cutters = 1 ∷ [];
         grade = 1;
+      };
+    })
+    -- even: every pile is worth just a third of its yard's total; yard 3 counts yard 1's pile as worth more
+    ∷ sheet (record {
+      agents = 3;
+      items = 3;
+      rows = (1 ∷ 1 ∷ 1 ∷ []) ∷ (1 ∷ 1 ∷ 1 ∷ []) ∷ (5 ∷ 1 ∷ 3 ∷ []) ∷ [];
+      division = record {
+        bundles = (1 ∷ []) ∷ (2 ∷ []) ∷ (3 ∷ []) ∷ [];
+        shares = 1 ∷ 1 ∷ 1 ∷ [];
+        cuts = (1 ∷ 2 ∷ 3 ∷ []) ∷ (1 ∷ 2 ∷ 3 ∷ []) ∷ (1 ∷ 2 ∷ 3 ∷ []) ∷ [];
+        cutters = 1 ∷ [];
+        grade = 2;
       };
     })
     ∷ []

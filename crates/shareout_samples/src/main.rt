@@ -1,4 +1,4 @@
-// Divides the sample sheets of document 01: for each, its name and what the program prints.
+// Divides the sample sheets of document 01 and two that are even: for each, its name and what the program prints.
 use libc::STDOUT_FILENO;
 use sheet::Sheet;
 use writing::Answer;
@@ -8,6 +8,7 @@ const TOO_LONG: usize = Sheet::LONGEST_TEXT + 1;
 
 fn main() {
     starred();
+    even();
     counts();
     marks();
     let long = [b'\n'; TOO_LONG];
@@ -51,6 +52,18 @@ fn starred() {
     show(
         b"i\n",
         b"(sheet (yards 1) (pieces 3))\n(yard 1 (marks 3 0 9))\n(end)\n",
+    );
+}
+
+// Sheets of grade 2.
+fn even() {
+    show(
+        b"even\n",
+        b"(sheet (yards 3) (pieces 3))\n(yard 1 (marks 1 1 1))\n(yard 2 (marks 1 1 1))\n(yard 3 (marks 5 1 3))\n(end)\n",
+    );
+    show(
+        b"even, two rounds\n",
+        b"(sheet (yards 4) (pieces 6))\n(yard 1 (marks 2 4 10 11 10 3))\n(yard 2 (marks 9 6 1 4 9 5))\n(yard 3 (marks 9 12 5 4 6 9))\n(yard 4 (marks 6 4 5 12 0 11))\n(end)\n",
     );
 }
 

@@ -1,5 +1,6 @@
 //! Divides a sheet among its yards and grades the result (document 01, "Rounds" and "Grades").
 
+use crate::grades::{grade, tests};
 use crate::ratio::top_and_bottom;
 use crate::reader::Sheet;
 use crate::serving::{first_serving, largest_waiting_sets, Suitable};
@@ -29,7 +30,7 @@ pub fn divide(sheet: &Sheet) -> Division {
     let agents: Vec<usize> = (0..sheet.yards).collect();
     let items: Vec<usize> = (0..sheet.pieces).collect();
     round(sheet, &agents, &items, &mut division);
-    division.grade = grade(sheet, &division);
+    division.grade = grade(tests(sheet, &division));
     division
 }
 
@@ -80,25 +81,6 @@ fn cut_into_bundles(row: &[u64], items: &[usize], count: usize) -> Vec<Vec<usize
     let mut bundles = vec![Vec::new(); count];
     items.iter().zip(layout).for_each(|(item, bundle)| bundles[bundle - 1].push(*item));
     bundles
-}
-
-/// "The loft's custom, from the whole division; the first that fits."
-fn grade(sheet: &Sheet, division: &Division) -> u8 {
-    let bundles = &division.bundles;
-    let own = |agent: usize| worth(&sheet.marks[agent], &bundles[agent]);
-    let total = |agent: usize| sheet.marks[agent].iter().sum::<u64>();
-    let envies =
-        |agent: usize, bundle: &Vec<usize>| worth(&sheet.marks[agent], bundle) > own(agent);
-    let yards = sheet.yards;
-    if (0..yards).all(|agent| !bundles.iter().any(|bundle| envies(agent, bundle))) {
-        1
-    } else if (0..yards).all(|agent| own(agent) >= total(agent) / yards as u64) {
-        2
-    } else if (0..yards).all(|agent| own(agent) >= division.cuts[agent].share) {
-        3
-    } else {
-        4
-    }
 }
 
 #[cfg(test)]

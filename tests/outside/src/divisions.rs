@@ -102,6 +102,7 @@ fn due(division: &Division) -> Answer {
 mod tests {
     use super::{check, check_counts, due, Answer, Cutters, Entry, Piles, Table, LENT};
     use crate::division::divide;
+    use crate::grades::{self, tests_before_order_2};
     use crate::met::Met;
     use crate::reader::{read, Sheet};
     use crate::samples::SHEETS;
@@ -113,14 +114,16 @@ mod tests {
             && check_counts(entry).is_ok()
     }
 
+    /// The sheet of these counts in a table.
+    fn sheet_of(table: &Table, yards: usize, pieces: usize) -> Sheet {
+        let rows = table[..yards].iter().map(|row| row[..pieces].iter());
+        Sheet::of(rows.map(|row| row.map(|mark| u64::from(*mark)).collect()).collect())
+    }
+
     /// The solver's answer, as the library should give it.
     fn right(table: &Table, yards: usize, pieces: usize) -> Answer {
         match (yards, pieces) {
-            (1..=6, 1..=12) => {
-                let rows = table[..yards].iter().map(|row| row[..pieces].iter());
-                let marks = rows.map(|row| row.map(|mark| u64::from(*mark)).collect()).collect();
-                due(&divide(&Sheet::of(marks)))
-            }
+            (1..=6, 1..=12) => due(&divide(&sheet_of(table, yards, pieces))),
             (1..=6, _) => (5, LENT.1, LENT.2, LENT.3),
             _ => (4, LENT.1, LENT.2, LENT.3),
         }
@@ -143,6 +146,19 @@ mod tests {
     #[test]
     fn right_answers_pass() {
         assert!(passes(&changed(|_| (), 64)));
+    }
+
+    #[test]
+    fn the_even_test_before_order_2_is_found() {
+        assert!(!passes(&|table, yards, pieces, grade, piles, cutters| {
+            let answer = right(table, yards, pieces);
+            (*grade, *piles, *cutters) = (answer.1, answer.2, answer.3);
+            if answer.0 == 0 {
+                let sheet = sheet_of(table, yards, pieces);
+                *grade = grades::grade(tests_before_order_2(&sheet, &divide(&sheet)));
+            }
+            answer.0
+        }));
     }
 
     #[test]

@@ -1,4 +1,4 @@
-//! A solver for document 01, with order 1 of document 02, that shares no code with the library it is
+//! A solver for document 01, with orders 1 and 2 of document 02, that shares no code with the library it is
 //! held against, reads by rewriting lines, and finds shares, cuts, waiting sets and servings by other
 //! methods.
 //! Yards (agents) and pieces (items) are counted from 0 inside, and from 1 in texts.
@@ -9,6 +9,7 @@ pub mod division;
 pub mod divisions;
 pub mod families;
 pub mod generator;
+pub mod grades;
 pub mod harness;
 pub mod kinds;
 pub mod limits;

@@ -1,6 +1,7 @@
 //! The kinds of divisions that a comparison has met, and whether it has met all it must.
 
 use crate::division::{divide, Division};
+use crate::grades::{grade, tests, tests_before_order_2};
 use crate::harness::{Due, Solver};
 use crate::kinds::Kinds;
 use crate::printer::print;
@@ -11,6 +12,9 @@ use crate::ties;
 /// So many divisions must have several largest waiting sets in some round.
 const FEWEST_TIES: usize = 500;
 
+/// The kind of divisions whose grade order 2 changed.
+const REGRADED: &str = "grade 2 before order 2, now";
+
 #[derive(Default)]
 pub struct Met {
     pub divisions: usize,
@@ -20,11 +24,20 @@ pub struct Met {
 }
 
 impl Met {
-    /// The solver's division, counted; it must keep the promise.
+    /// The solver's division, counted; it must keep the promise, and whatever passes the test for a
+    /// grade must pass those after it.
     pub fn divide(&mut self, sheet: &Sheet) -> Result<Division, String> {
         let division = divide(sheet);
         if !keeps_promise(sheet, &division) {
             return Err(format!("the solver's division breaks the promise: {:?}", sheet.marks));
+        }
+        if !tests(sheet, &division).is_sorted() {
+            return Err(format!("passes a test and not a later one: {:?}", sheet.marks));
+        }
+        match (grade(tests_before_order_2(sheet, &division)), division.grade) {
+            (before, now) if before == now => (),
+            (2, 3) => self.kinds.count(REGRADED, 3),
+            (before, now) => return Err(format!("grade {before} became {now}: {:?}", sheet.marks)),
         }
         self.divisions += 1;
         self.tied += usize::from(!division.tied_rounds.is_empty());
@@ -41,9 +54,11 @@ impl Met {
         self.kinds.print();
     }
 
-    /// Grades 1 to 4, one to six rounds, and ties, enough and at all their counts of yards.
+    /// Grades 1 to 4, divisions whose grade order 2 changed, one to six rounds, and ties, enough and at
+    /// all their counts of yards.
     pub fn all_met(&self) -> Result<(), String> {
         self.kinds.all_met("grade", 1..=4)?;
+        self.kinds.all_met(REGRADED, [3])?;
         self.kinds.all_met("rounds", 1..=6)?;
         for (yards, left) in ties::COUNTS {
             self.kinds.all_met(&tie_of(yards), [left])?;
@@ -75,8 +90,21 @@ fn tie_of(yards: usize) -> String {
 mod tests {
     use super::Met;
     use crate::families::FAMILIES;
+    use crate::reader::Sheet;
     use crate::tables::of_family;
     use crate::ties;
+
+    #[test]
+    fn no_change_of_grade_is_found() {
+        let mut met = Met::default();
+        (1..=4).for_each(|grade| met.kinds.count("grade", grade));
+        let result = |met: &Met| met.all_met().err().unwrap_or_default();
+        assert_eq!(result(&met), "never met: grade 2 before order 2, now 3");
+        assert!(met.divide(&Sheet::of(vec![vec![1; 3], vec![1; 3], vec![5, 1, 3]])).is_ok());
+        assert_eq!(result(&met), "never met: grade 2 before order 2, now 3");
+        assert!(met.divide(&Sheet::of(vec![vec![1; 3], vec![1; 3], vec![5, 2, 3]])).is_ok());
+        assert_eq!(result(&met), "never met: rounds 2");
+    }
 
     #[test]
     fn few_ties_are_found() {

@@ -1,4 +1,5 @@
-//! The sample sheets of document 01, and sheets as yards type them, read from the folder `samples`.
+//! The sample sheets of document 01, two that are even, and sheets as yards type them, read from the
+//! folder `samples`.
 
 use crate::limits::LONGEST_TEXT;
 use crate::reader::Sheet;
@@ -12,17 +13,24 @@ macro_rules! sample {
 
 pub const SHEET_A: &str = sample!("a");
 
-/// Name, text, and the document's figures where it gives all: shares, piles, cutters, grade.
-pub const SHEETS: [(&str, &str, &str); 9] = [
+/// Name, text, and the figures where they are given: shares, piles, cutters, grade. Those of a to i are
+/// the document's, with the grades of order 2.
+pub const SHEETS: [(&str, &str, &str); 11] = [
     ("a", SHEET_A, "[5, 4] [[1], [2, 3]] [1] 3"),
-    ("b", sample!("b"), "[1, 6, 2] [[3], [1, 2], [4]] [1, 2] 2"),
+    ("b", sample!("b"), "[1, 6, 2] [[3], [1, 2], [4]] [1, 2] 3"),
     ("c", sample!("c"), "[1, 4, 1] [[1, 2], [3], [4]] [1] 4"),
-    ("d", sample!("d"), "[1, 8, 1] [[3], [1, 2], [4]] [1, 2] 2"),
+    ("d", sample!("d"), "[1, 8, 1] [[3], [1, 2], [4]] [1, 2] 3"),
     ("e", sample!("e"), "[0, 0] [[1], []] [1] 3"),
     ("f", sample!("f"), "[0, 0] [[1, 2], []] [1] 1"),
     ("g as three equal rows", sample!("g"), ""),
     ("h as two equal rows", sample!("h"), ""),
     ("i", sample!("i"), "[12] [[1, 2, 3]] [1] 1"),
+    ("even", sample!("even"), "[1, 1, 1] [[1], [2], [3]] [1] 2"),
+    (
+        "even, two rounds",
+        sample!("even_rounds"),
+        "[9, 7, 9, 6] [[3], [1, 2], [5, 6], [4]] [1, 2] 2",
+    ),
 ];
 
 /// Order 1: name, text, and the strict text of its sheet or the refusal's number.

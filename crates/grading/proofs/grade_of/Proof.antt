@@ -33,7 +33,7 @@ abbrev first : tie.After-each-at-most → tie.After-compare
 first c = c .before .before .before
 
 abbrev second : tie.After-each-at-most2 → tie.After-compare
-second c = first (c .before .before .before)
+second c = first (c .before .before .before .before)
 
 abbrev third : tie.After-each-at-most3 → tie.After-compare
 third c = second (c .before .before)
@@ -64,7 +64,7 @@ even c =
     let amounts = second c in
     let s = start amounts in
     proportional-compared (agentsOf s) (rowsOf s) (bundlesOf s) (s .args .shares)
-    ∙ sym (c .each-at-most2 .ensures ∙ ap₂ (λ (r : Compared) n. eachAtMost (r .even) (r .own) n) (told amounts) (last-told amounts))
+    ∙ sym (c .each-at-most2 .ensures ∙ ap₂ (λ (r : Compared) n. eachAtMost (r .totals) (r .multiples) n) (told amounts) (last-told amounts))
 
 whole-share : (c : tie.After-each-at-most3)
     → let s = start (third c) in
@@ -94,7 +94,7 @@ each-at-most-requires-2 c κs = search needs
 returns-2 : tie.Need-returns-2
 unfolding gradeIn grade
 returns-2 c =
-    let envied = c .before .before .before in
+    let envied = c .before .before .before .before in
     rw (envy-free (envied .before), envied .if1 .left, even (c .before), c .if2 .taken)
 
 each-at-most-requires-3 : tie.Need-each-at-most-requires-3
@@ -104,14 +104,14 @@ returns-3 : tie.Need-returns-3
 unfolding gradeIn grade
 returns-3 c =
     let uneven = c .before .before in
-    let envied = uneven .before .before .before in
+    let envied = uneven .before .before .before .before in
     rw (envy-free (envied .before), envied .if1 .left, even (uneven .before), uneven .if2 .left, whole-share (c .before), c .if3 .taken)
 
 returns-4 : tie.Need-returns-4
 unfolding gradeIn grade
 returns-4 c =
     let uneven = c .before .before in
-    let envied = uneven .before .before .before in
+    let envied = uneven .before .before .before .before in
     rw (envy-free (envied .before), envied .if1 .left, even (uneven .before), uneven .if2 .left, whole-share (c .before), c .if3 .left)
 
 pub grade-of-spec : {M : Type 1} → statement M

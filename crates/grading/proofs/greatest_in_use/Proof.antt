@@ -51,7 +51,7 @@ loop-again c =
     let a = c .before .before .before .before .args in
     let l = c .before .before .before .loop in
     let w = seen (a .valuation) (a .items) (a .t4) in
-    let next = c .before .value-in-use .ensures ∙ ap (value (allValues (min (a .items) mostItems) (a .valuation))) (sym (nth-items (a .t4) (l .i))) in
+    let next = c .before .value-in-use .ensures .0 ∙ ap (value (allValues (min (a .items) mostItems) (a .valuation))) (sym (nth-items (a .t4) (l .i))) in
     (omega arith, c .greater .ensures ∙ ap₂ max (l .inv .1) next ∙ sym (greatestOf-next w (l .i)))
 
 returns : tie.Need-returns Inv-loop μ-loop

@@ -34,9 +34,11 @@ value-of-requires c κs = search needs
 returns : tie.Need-returns
 returns c =
     let a = c .before .before .args in
+    let worth =
     c .value-of .ensures .0
     ∙ ap (λ sets. value (a .valuation) (itemsOf (a .bundle % sets))) (sets-told (c .before) .0)
-    ∙ value-remainder (min (a .items) mostItems) (omega arith) (a .valuation) (a .bundle)
+    ∙ value-remainder (min (a .items) mostItems) (omega arith) (a .valuation) (a .bundle) in
+    (worth, c .value-of .ensures .1)
 
 pub value-in-use-spec : {M : Type 1} → statement M
 value-in-use-spec =

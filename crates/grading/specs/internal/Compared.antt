@@ -1,6 +1,6 @@
 -- What the tests of the grade compare, for each agent. Assumes nothing: these are definitions.
 use mathlib.Core.List.{List, [], map}
-use Prim.Native.Nat.{ℕ, _/_}
+use Prim.Native.Nat.{ℕ, _*_}
 use Rattle.lists.specs.Lists.{range, padded}
 use Rattle.lists.specs.Sums.{total, greatestOf}
 use Rattle.sheet.specs.Limits.{mostAgents}
@@ -17,9 +17,13 @@ module _ (n : ℕ) (valuations bundles : List (List ℕ)) where
   abbrev pub greatestValue : ℕ → ℕ
   greatestValue i = greatestOf (valueTo n valuations [] bundles i) n
 
-  -- the total of agent i divided by the number of agents, rounded down
-  abbrev pub evenPart : ℕ → ℕ
-  evenPart i = total (valuation valuations i) / n
+  -- n times the value of agent i's own bundle
+  abbrev pub multipleOfOwn : ℕ → ℕ
+  multipleOfOwn i = n * ownValue i
+
+  -- the value of all items to agent i
+  abbrev pub totalValue : ℕ → ℕ
+  totalValue i = total (valuation valuations i)
 
   -- a place for each agent
   unfoldable pub compared : Compared
@@ -27,5 +31,6 @@ module _ (n : ℕ) (valuations bundles : List (List ℕ)) where
       record {
         own = padded mostAgents 0 (map ownValue (range 1 n));
         greatest = padded mostAgents 0 (map greatestValue (range 1 n));
-        even = padded mostAgents 0 (map evenPart (range 1 n));
+        multiples = padded mostAgents 0 (map multipleOfOwn (range 1 n));
+        totals = padded mostAgents 0 (map totalValue (range 1 n));
       }

@@ -1,5 +1,5 @@
--- The printed texts of the starred sheets a to f and i of document 01, by computation. In e and f a pile is empty, and one in a cut.
--- Assumes nothing.
+-- The printed texts of the starred sheets a to f and i of document 01 and of a sheet of grade 2, by computation. In e and f a pile is empty,
+-- and one in a cut. Assumes nothing.
 use mathlib.Core.Path.{_≡_, refl, _∙_}
 use mathlib.Core.List.{List, [], _∷_, _++_, map, flatMap}
 use Prim.Native.Nat.{ℕ}
@@ -22,7 +22,7 @@ texts =
     ++ bytes "(yard 2 (pile 2 3) (worth 4) (share 4) (cut (1) (2 3)))\n"
     ++ bytes "(cutters 1)\n(end)\n")
     -- b
-    ∷ (bytes "(division (yards 3) (pieces 4) (grade 2))\n"
+    ∷ (bytes "(division (yards 3) (pieces 4) (grade 3))\n"
     ++ bytes "(yard 1 (pile 3) (worth 1) (share 1) (cut (1 2) (3) (4)))\n"
     ++ bytes "(yard 2 (pile 1 2) (worth 12) (share 6) (cut (1) (2) (3 4)))\n"
     ++ bytes "(yard 3 (pile 4) (worth 2) (share 2) (cut (1 2) (3) (4)))\n"
@@ -34,7 +34,7 @@ texts =
     ++ bytes "(yard 3 (pile 4) (worth 1) (share 1) (cut (1 2) (3) (4)))\n"
     ++ bytes "(cutters 1)\n(end)\n")
     -- d
-    ∷ (bytes "(division (yards 3) (pieces 4) (grade 2))\n"
+    ∷ (bytes "(division (yards 3) (pieces 4) (grade 3))\n"
     ++ bytes "(yard 1 (pile 3) (worth 1) (share 1) (cut (1 2) (3) (4)))\n"
     ++ bytes "(yard 2 (pile 1 2) (worth 16) (share 8) (cut (1) (2) (3 4)))\n"
     ++ bytes "(yard 3 (pile 4) (worth 1) (share 1) (cut (1 2) (3) (4)))\n"
@@ -52,6 +52,12 @@ texts =
     -- i
     ∷ (bytes "(division (yards 1) (pieces 3) (grade 1))\n"
     ++ bytes "(yard 1 (pile 1 2 3) (worth 12) (share 12) (cut (1 2 3)))\n"
+    ++ bytes "(cutters 1)\n(end)\n")
+    -- even
+    ∷ (bytes "(division (yards 3) (pieces 3) (grade 2))\n"
+    ++ bytes "(yard 1 (pile 1) (worth 1) (share 1) (cut (1) (2) (3)))\n"
+    ++ bytes "(yard 2 (pile 2) (worth 1) (share 1) (cut (1) (2) (3)))\n"
+    ++ bytes "(yard 3 (pile 3) (worth 3) (share 1) (cut (1) (2) (3)))\n"
     ++ bytes "(cutters 1)\n(end)\n")
     ∷ []
 
