@@ -1,10 +1,11 @@
 -- The theorems about every table: n agents (yards), m items (pieces) and any marks. Assumes nothing.
 use mathlib.Core.Path.{_≡_, refl, sym, ap, _∙_}
-use mathlib.Core.Bool.{false≢true}
+use mathlib.Core.Bool.{true, false≢true}
 use mathlib.Core.Logic.{⊎-elim}
 use mathlib.Core.List.{List}
 use Prim.Native.Nat.{ℕ, _≤_}
 use native.Mathlib.Omega.{arith}
+use lib.Dec.{leb}
 use lib.ListN.{length}
 use Rattle.lists.specs.Lists.{range}
 use Rattle.lists.proofs.ranges.Ranges.{in-range, range-bounds, length-range}
@@ -13,10 +14,14 @@ use Rattle.sheet.specs.Limits.{mostItems, CountsWithin}
 use Rattle.sheet.specs.Answers.{refused, accepted}
 use Rattle.sheet.specs.Tables.{AgreeInUse}
 use Rattle.sheet.specs.Allocations.{Allocates}
+use Rattle.grading.specs.Scale.{passes, gradeOf}
+use Rattle.grading.proofs.Scale.{passes-from-grade}
 use Rattle.rounds.specs.Terms.{termsFor}
 use Rattle.rounds.specs.Division.{standardInstance, allocation, divisionOf, divisionByRounds, answer}
 use Rattle.division.specs.Outcome.{outcome}
-use Rattle.division.specs.Promise.{isDivision, bundlesIn, allAgents, satisfiedAgents, Promised}
+use Rattle.division.specs.declared.Answer.the-variants.{Divided}
+use Rattle.division.specs.declared.Outcome.{Outcome}
+use Rattle.division.specs.Promise.{isDivided, isDivision, bundlesIn, allAgents, satisfiedAgents, Promised}
 use Rattle.rounds.proofs.density.Terms.{termsFor-allowed}
 use Rattle.rounds.proofs.Allocation.{length-allocation, allocation-sublist, holds-promised, item-in-one}
 use Rattle.rounds.proofs.Answers.{answer-cases, answer-within-limits}
@@ -24,6 +29,10 @@ use Rattle.rounds.proofs.Theorems.{agreeing-tables-same-answer}
 use Rattle.division.proofs.Outcomes.{bundlesIn-divided}
 
 module _ (n m : ℕ) (table : List (List ℕ)) where
+  -- the code's answer
+  abbrev answered : Outcome
+  answered = outcome (answer n m table)
+
   -- the bundles of the division by the rounds
   abbrev bundles : List (List ℕ)
   bundles = allocation n m (standardInstance n m table)
@@ -70,8 +79,31 @@ module _ (n m : ℕ) (table : List (List ℕ)) where
       }
 
   -- demand 3, for every table
-  pub promised : Promised n m table (outcome (answer n m table))
+  pub promised : Promised n m table answered
   promised = ⊎-elim (λ d. rw (d .0) (promised-divided (d .1))) (λ r. rw (r .1) (promised-refused (r .0) (r .1))) (answer-cases n m table)
+
+  -- a division that is answered passes the test for h exactly where its grade is at most h
+  pub divided-passes-from-grade : (g : ℕ) → answered .answer ≡ Divided g → (h : ℕ) → 1 ≤ h → passes n m table (bundlesIn n answered) h ≡ leb g h
+  unfolding divisionOf
+  divided-passes-from-grade g is-g h some = ⊎-elim of-divided of-refused (answer-cases n m table)
+    where
+      of-divided : (answer n m table ≡ accepted (divisionByRounds n m table)) × CountsWithin n m → passes n m table (bundlesIn n answered) h ≡ leb g h
+      of-divided d =
+          let same : Divided (gradeOf n m table bundles) ≡ Divided g = sym (ap (λ a. outcome a .answer) (d .0)) ∙ is-g in
+          let grade-is : gradeOf n m table bundles ≡ g = cc in
+          rw (d .0, divided-bundles (d .1 .few-items))
+          (passes-from-grade n m table bundles (all-allocated (d .1 .some)) h some ∙ ap (λ k. leb k h) grade-is)
+
+      of-refused : (number : ℕ) × (answer n m table ≡ refused number) → passes n m table (bundlesIn n answered) h ≡ leb g h
+      of-refused r = absurd (false≢true (ap isDivided (sym (ap (λ a. outcome a .answer) (r .1)) ∙ is-g)))
+
+  -- "a grade 1 division passes the tests for 2 and 3"
+  pub divided-1-passes-2-and-3 : answered .answer ≡ Divided 1 → (passes n m table (bundlesIn n answered) 2 ≡ true) × (passes n m table (bundlesIn n answered) 3 ≡ true)
+  divided-1-passes-2-and-3 is-1 = (divided-passes-from-grade 1 is-1 2 (omega arith), divided-passes-from-grade 1 is-1 3 (omega arith))
+
+  -- "and a grade 2 division the test for 3"
+  pub divided-2-passes-3 : answered .answer ≡ Divided 2 → passes n m table (bundlesIn n answered) 3 ≡ true
+  divided-2-passes-3 is-2 = divided-passes-from-grade 2 is-2 3 (omega arith)
 
 -- "places beyond the yards and pieces in use count for nothing": the code's answer is the same
 pub agreeing-tables-same-outcome : (n m : ℕ) (table table′ : List (List ℕ)) → AgreeInUse n m table table′ → outcome (answer n m table) ≡ outcome (answer n m table′)

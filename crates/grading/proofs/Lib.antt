@@ -1,3 +1,6 @@
--- Laws of the grade.
+-- Laws of the grade, and the scale that the grades are.
+pub mod Even
 pub mod Tests
 pub mod Grades
+pub mod Implied
+pub mod Scale

@@ -1,3 +1,4 @@
 -- The grade of an allocation (document 01, "Grades").
 pub mod Grade
+pub mod Scale
 pub mod internal
