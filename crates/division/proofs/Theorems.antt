@@ -14,7 +14,7 @@ use Rattle.sheet.specs.Limits.{mostItems, CountsWithin}
 use Rattle.sheet.specs.Answers.{refused, accepted}
 use Rattle.sheet.specs.Tables.{AgreeInUse}
 use Rattle.sheet.specs.Allocations.{Allocates}
-use Rattle.grading.specs.Scale.{passes, gradeOf}
+use Rattle.grading.specs.Scale.{passes, gradeByTable}
 use Rattle.grading.proofs.Scale.{passes-from-grade}
 use Rattle.rounds.specs.Terms.{termsFor}
 use Rattle.rounds.specs.Division.{standardInstance, allocation, divisionOf, divisionByRounds, answer}
@@ -89,8 +89,8 @@ module _ (n m : ℕ) (table : List (List ℕ)) where
     where
       of-divided : (answer n m table ≡ accepted (divisionByRounds n m table)) × CountsWithin n m → passes n m table (bundlesIn n answered) h ≡ leb g h
       of-divided d =
-          let same : Divided (gradeOf n m table bundles) ≡ Divided g = sym (ap (λ a. outcome a .answer) (d .0)) ∙ is-g in
-          let grade-is : gradeOf n m table bundles ≡ g = cc in
+          let same : Divided (gradeByTable n m table bundles) ≡ Divided g = sym (ap (λ a. outcome a .answer) (d .0)) ∙ is-g in
+          let grade-is : gradeByTable n m table bundles ≡ g = cc in
           rw (d .0, divided-bundles (d .1 .few-items))
           (passes-from-grade n m table bundles (all-allocated (d .1 .some)) h some ∙ ap (λ k. leb k h) grade-is)
 

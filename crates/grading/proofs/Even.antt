@@ -5,7 +5,7 @@ use Prim.Native.Nat.{ℕ}
 use Rattle.sheet.specs.Tables.{profile}
 use Rattle.cut.specs.Share.{maximinShare}
 use Rattle.grading.specs.Grade.{envyFree, proportional, maximinFair, grade}
-use Rattle.grading.specs.Scale.{gradeOf}
+use Rattle.grading.specs.Scale.{gradeByTable}
 
 -- a table of three agents, an allocation of its items, and the grade
 pub record Sample : Type 0 where
@@ -46,6 +46,6 @@ samples =
     }
     ∷ []
 
-pub samples-graded : map (λ s. gradeOf 3 (s .items) (s .rows) (s .bundles)) samples ≡ map (λ s. s .grade) samples
+pub samples-graded : map (λ s. gradeByTable 3 (s .items) (s .rows) (s .bundles)) samples ≡ map (λ s. s .grade) samples
 unfolding samples grade envyFree proportional maximinFair profile maximinShare
 samples-graded = refl

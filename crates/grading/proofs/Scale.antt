@@ -15,7 +15,7 @@ use Rattle.lists.proofs.ranges.Ranges.{in-range, nth-map-range}
 use Rattle.sheet.specs.Tables.{profile}
 use Rattle.sheet.specs.Allocations.{Allocates}
 use Rattle.grading.specs.Grade.{envyFree, proportional, maximinFair, grade}
-use Rattle.grading.specs.Scale.{sharesOf, passes, gradeOf}
+use Rattle.grading.specs.Scale.{sharesOf, passes, gradeByTable}
 use Rattle.grading.proofs.Implied.{envyFree-proportional, proportional-maximinFair}
 
 -- the number of the first of three tests that passes, or 4
@@ -45,7 +45,7 @@ nth-from-first a b c ab bc g some =
 
 module _ (n m : ℕ) (table bundles : List (List ℕ)) (allocates : Allocates n m bundles) where
   -- it passes the test for g exactly where its grade is at most g
-  pub passes-from-grade : (g : ℕ) → 1 ≤ g → passes n m table bundles g ≡ leb (gradeOf n m table bundles) g
+  pub passes-from-grade : (g : ℕ) → 1 ≤ g → passes n m table bundles g ≡ leb (gradeByTable n m table bundles) g
   unfolding grade
   passes-from-grade =
       nth-from-first
@@ -59,12 +59,12 @@ module _ (n m : ℕ) (table bundles : List (List ℕ)) (allocates : Allocates n 
   pub passes-later : (g h : ℕ) → 1 ≤ g → g ≤ h → passes n m table bundles g ≡ true → passes n m table bundles h ≡ true
   passes-later g h some later passed =
       passes-from-grade h (omega arith)
-      ∙ le-leb (gradeOf n m table bundles) h (omega (arith, leb-true (gradeOf n m table bundles) g (sym (passes-from-grade g some) ∙ passed)))
+      ∙ le-leb (gradeByTable n m table bundles) h (omega (arith, leb-true (gradeByTable n m table bundles) g (sym (passes-from-grade g some) ∙ passed)))
 
   -- "a grade 1 division passes the tests for 2 and 3"
-  pub grade-1-passes-2-and-3 : gradeOf n m table bundles ≡ 1 → (passes n m table bundles 2 ≡ true) × (passes n m table bundles 3 ≡ true)
+  pub grade-1-passes-2-and-3 : gradeByTable n m table bundles ≡ 1 → (passes n m table bundles 2 ≡ true) × (passes n m table bundles 3 ≡ true)
   grade-1-passes-2-and-3 is-1 = (passes-from-grade 2 (omega arith) ∙ ap (λ g. leb g 2) is-1, passes-from-grade 3 (omega arith) ∙ ap (λ g. leb g 3) is-1)
 
   -- "and a grade 2 division the test for 3"
-  pub grade-2-passes-3 : gradeOf n m table bundles ≡ 2 → passes n m table bundles 3 ≡ true
+  pub grade-2-passes-3 : gradeByTable n m table bundles ≡ 2 → passes n m table bundles 3 ≡ true
   grade-2-passes-3 is-2 = passes-from-grade 3 (omega arith) ∙ ap (λ g. leb g 3) is-2

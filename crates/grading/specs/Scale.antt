@@ -25,6 +25,6 @@ module _ (n m : ℕ) (table : List (List ℕ)) where
     abbrev pub passes : ℕ → Bool
     passes g = nth true tests g
 
-    -- the grade of the allocation
-    abbrev pub gradeOf : ℕ
-    gradeOf = grade n (profile n m table) sharesOf bundles
+    -- the grade of the allocation, by the marks of the table alone
+    abbrev pub gradeByTable : ℕ
+    gradeByTable = grade n (profile n m table) sharesOf bundles

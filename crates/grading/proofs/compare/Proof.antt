@@ -35,13 +35,20 @@ Inv-loop agents items table bundles all own₀ greatest₀ multiples₀ totals�
 abbrev μ-loop : tie.MeasureT-loop
 μ-loop agents items table bundles all own₀ greatest₀ multiples₀ totals₀ i₀ own greatest multiples totals i = agents - i
 
+-- the head of the loop, before the point where a bundle is valued, and the start of the function
+abbrev head : tie.After-value-in-use Inv-loop μ-loop → tie.At-loop Inv-loop μ-loop
+head c = c .before .before .before
+
+abbrev start : tie.At-loop Inv-loop μ-loop → tie.Start Inv-loop μ-loop
+start c = c .before .before
+
 -- the values of the items in use to agent i + 1
 row-read : (c : tie.In-loop Inv-loop μ-loop)
-    → let a = c .before .before .before .args in
+    → let a = start (c .before) .args in
     let i = c .before .loop .i in
     allValues (min (a .items) mostItems) (getD (a .t1) i []) ≡ valuation (profile (a .agents) (min (a .items) mostItems) (a .t1)) (i + 1)
 row-read c =
-    let a = c .before .before .before .args in
+    let a = start (c .before) .args in
     let i = c .before .loop .i in
     let m = min (a .items) mostItems in
     sym (valuation-profile (a .agents) m (a .t1) (in-range 1 (a .agents) (i + 1) (omega arith) (omega arith)) ∙ ap (allValues m) (nth-next [] (a .t1) i))
@@ -83,9 +90,7 @@ array-write-greatest : tie.Need-array-write-greatest Inv-loop μ-loop
 array-write-greatest c = omega arith
 
 mul-multiples : tie.Need-mul-multiples Inv-loop μ-loop
-mul-multiples c =
-    let s = c .before .before .before .before .before .before in
-    omega (arith, mul-le-mul (s .pre) (c .before .value-in-use .ensures .1))
+mul-multiples c = omega (arith, mul-le-mul (start (head (c .before)) .pre) (c .before .value-in-use .ensures .1))
 
 mul-multiples-2 : tie.Need-mul-multiples-2 Inv-loop μ-loop
 mul-multiples-2 c = omega arith
@@ -112,16 +117,15 @@ loop-again : tie.Need-loop-again Inv-loop μ-loop
 loop-again c =
     let seen = c .before in
     let valued = seen .before in
-    let at-loop = valued .before .before .before in
-    let l = at-loop .loop in
-    let a = at-loop .before .before .args in
+    let l = head valued .loop in
+    let a = start (head valued) .args in
     let m = min (a .items) mostItems in
     let rows = profile (a .agents) m (a .t1) in
     let bundles = map itemsOf (a .t4) in
     let row = row-read (valued .before .before) in
     let own = valued .value-in-use .result in
     let worth : own ≡ ownValue (a .agents) rows bundles (l .i + 1) = valued .value-in-use .ensures .0 ∙ ap₂ value row (sym (nth-items (a .t4) (l .i))) in
-    let all = at-loop .before .all-items .ensures in
+    let all = head valued .before .all-items .ensures in
     let whole =
     c .value-of .ensures .0
     ∙ ap (λ set. value (getD (a .t1) (l .i) []) (itemsOf set)) all
@@ -142,7 +146,7 @@ loop-again c =
 returns : tie.Need-returns Inv-loop μ-loop
 unfolding compared
 returns c =
-    let a = c .before .before .before .args in
+    let a = start (c .before) .args in
     let l = c .before .loop in
     let e : l .i ≡ a .agents = omega arith in
     made (rw e at (l .inv .1)) (rw e at (l .inv .2)) (rw e at (l .inv .3)) (rw e at (l .inv .4))
