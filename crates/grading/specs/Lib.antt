@@ -1,4 +1,4 @@
--- The grade of an allocation (document 01, "Grades").
+-- The grade of an allocation (document 01, "Grades"), and its tests one after the other.
 pub mod Grade
 pub mod Scale
 pub mod internal

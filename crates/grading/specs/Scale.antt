@@ -21,7 +21,7 @@ module _ (n m : ℕ) (table : List (List ℕ)) where
         ∷ maximinFair n (profile n m table) sharesOf bundles
         ∷ []
 
-    -- whether the allocation passes the test for grade g; 4 asks for nothing
+    -- whether the allocation passes the test for grade g, from 1 on; 4 asks for nothing
     abbrev pub passes : ℕ → Bool
     passes g = nth true tests g
 

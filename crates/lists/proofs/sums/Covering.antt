@@ -19,7 +19,7 @@ either-le true q x = omega arith
 either-le false q x = omega arith
 
 module _ (w : ℕ → ℕ) where
-  pub sumOver-range : (n : ℕ) → sumOver w (range 1 n) ≡ sumOf w n
+  sumOver-range : (n : ℕ) → sumOver w (range 1 n) ≡ sumOf w n
   sumOver-range zero = refl
   sumOver-range (suc n) =
       let next : 1 + n ≡ suc n = omega arith in

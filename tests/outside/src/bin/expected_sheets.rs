@@ -1,5 +1,5 @@
-//! Prints what the program `shareout_samples` should print: the answer to each sample sheet of
-//! document 01, by the solver of this package.
+//! Prints what the program `shareout_samples` should print: the answer to each sample sheet, those of
+//! document 01 and two that are even, by the solver of this package.
 
 use std::io::Write;
 
