@@ -3,3 +3,4 @@ pub mod Same
 pub mod Numbers
 pub mod Follow
 pub mod InTurn
+pub mod AlsoReads

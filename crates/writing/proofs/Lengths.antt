@@ -1,7 +1,7 @@
 -- How long texts of numbers are. Assumes nothing.
 use mathlib.Core.Path.{_≡_, refl}
 use mathlib.Core.List.{List, [], _∷_, List·Memᴰ as Mem}
-use Prim.Native.Nat.{ℕ, _+_, _*_, _≤_, _<_}
+use Prim.Native.Nat.{ℕ, suc, _+_, _*_, _^_, _≤_, _<_}
 use native.Mathlib.Omega.{arith}
 use lib.ListN.{length, length-append}
 use Rattle.lists.specs.Sums.{sumOver}
@@ -23,6 +23,7 @@ pub length-group : (ns : List ℕ) → length (group ns) ≤ 2 + sumOver spaced 
 length-group [] = omega arith
 length-group (k ∷ ks) = simp length-append (omega (arith, length-spacedNumbers ks))
 
--- numbers of at most two digits
-pub sumOver-spaced : (ns : List ℕ) → ((n : ℕ) → Mem n ns → n < 100) → sumOver spaced ns ≤ 3 * length ns
-sumOver-spaced ns small = omega (arith, sumOver-le spaced 1 3 ns (λ n m. omega (arith, decimal-length n 2 (omega arith) (small n m))))
+-- numbers of at most so many digits
+pub sumOver-spaced : (digits : ℕ) (ns : List ℕ) → 0 < digits → ((n : ℕ) → Mem n ns → n < 10 ^ digits) → sumOver spaced ns ≤ suc digits * length ns
+sumOver-spaced digits ns some-digit small =
+    omega (arith, sumOver-le spaced 1 (suc digits) ns (λ n m. omega (arith, decimal-length n digits some-digit (small n m))))

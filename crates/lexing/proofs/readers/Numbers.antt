@@ -10,7 +10,7 @@ use native.Mathlib.Omega.{arith}
 use lib.ListN.{length, getD, drop}
 use lib.Seq.{drop-cons}
 use lib.Dec.{leb, ltb, lit≤}
-use borrow.Author.Tests.{leb-true, lt-ltb}
+use borrow.Author.Tests.{leb-true, le-leb, lt-ltb}
 use Rattle.lexing.specs.Numbers.{isDigit, allDigits, noLeadingZero, isNumber, digitsAfter, number}
 use Rattle.lexing.specs.Places.{tokensAt}
 use Rattle.lexing.specs.internal.Lexed.{bytesOf, NextToken}
@@ -57,6 +57,13 @@ number-parts most w e =
     let digits = and-eq-true-iff (some-digits && few && noLeadingZero w) (allDigits w) .0 e in
     let bounds = and-eq-true-iff (some-digits && few) (noLeadingZero w) .0 (digits .0) in
     (leb-true (length w) most (and-eq-true-iff some-digits few .0 (bounds .0) .1), digits .1)
+
+-- a number in at most so many digits is one in at most more
+pub isNumber-wider : (most most′ : ℕ) (w : List ℕ) → most ≤ most′ → isNumber most w ≡ true → isNumber most′ w ≡ true
+unfolding isNumber
+isNumber-wider most most′ w more e =
+    let few = number-parts most w e .0 in
+    rw (le-leb (length w) most′ (omega arith)) (rw (le-leb (length w) most few) at e)
 
 -- a number at a place
 pub number-missed : (s : List ℕ) (c : Cursor) (t : token.Token) (most : ℕ) → NextToken s c t → isNumber most (bytesOf s t) ≡ false

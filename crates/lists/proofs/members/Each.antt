@@ -1,5 +1,5 @@
 -- What holds of each entry of a list, as a test and as a type. Assumes nothing.
-use mathlib.Core.Path.{_≡_}
+use mathlib.Core.Path.{_≡_, refl}
 use mathlib.Core.Bool.{Bool, true, and-eq-true-iff}
 use mathlib.Core.List.{List, [], _∷_, _++_, map}
 use Prim.Native.Nat.{ℕ, zero, suc}
@@ -11,6 +11,12 @@ all-append p [] ys e f = f
 all-append p (x ∷ xs) ys e f =
     let both = and-eq-true-iff (p x) (all p xs) .0 e in
     rw (both .0, all-append p xs ys (both .1) f)
+
+pub all-weaker : {A : Type 0} (p q : A → Bool) → ((x : A) → p x ≡ true → q x ≡ true) → (xs : List A) → all p xs ≡ true → all q xs ≡ true
+all-weaker p q weaker [] e = refl
+all-weaker p q weaker (x ∷ xs) e =
+    let both = and-eq-true-iff (p x) (all p xs) .0 e in
+    rw (weaker x (both .0)) (all-weaker p q weaker xs (both .1))
 
 -- each entry has the property P
 abbrev pub Each : {A : Type 0} → (A → Type 0) → List A → Type 0
