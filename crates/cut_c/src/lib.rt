@@ -4,13 +4,14 @@ ghost use Rattle.sheet.specs.Answers.{numberOf, after};
 ghost use Rattle.cut.specs.Outcome.{cutting};
 ghost use Rattle.cut_c.specs.Lent.{storeShare, storePartition};
 use cut::Answer;
+use sheet::Row;
 use sheet::Sheet;
 
 // Cuts the items of `set`, valued by `marks`, into `bundles` bundles. Answers 0 and stores the share and the partition, or answers
 // the number of the reason why the cut is refused and stores nothing.
 #[no_mangle]
 pub extern "C" fn cut_row(
-    marks: &[u16; Sheet::ITEMS],
+    marks: &Row,
     set: u16,
     bundles: usize,
     share: &mut u64,

@@ -2,6 +2,7 @@
 use cut::Answer;
 use cut::Partition;
 use libc::STDOUT_FILENO;
+use sheet::Mark;
 use sheet::Row;
 use sheet::Sheet;
 
@@ -14,22 +15,7 @@ fn main() {
     show(row(3, 3, 2, 2, 2, 0, 0), 0, 2);
     show(row(3, 3, 2, 2, 2, 0, 0), 4, 6);
     show(row(1, 2, 3, 4, 5, 6, 7), 85, 2);
-    // Twelve items at the greatest mark.
-    show(
-        [Sheet::GREATEST_MARK as u16; Sheet::ITEMS],
-        Sheet::SETS - 1,
-        1,
-    );
-    show(
-        [Sheet::GREATEST_MARK as u16; Sheet::ITEMS],
-        Sheet::SETS - 1,
-        5,
-    );
-    show(
-        [Sheet::GREATEST_MARK as u16; Sheet::ITEMS],
-        Sheet::SETS - 1,
-        6,
-    );
+    large();
     // No bundle, seven bundles, an item above the last, both.
     show(row(1, 2, 3, 4, 5, 6, 7), 127, 0);
     show(row(1, 2, 3, 4, 5, 6, 7), 127, 7);
@@ -38,9 +24,46 @@ fn main() {
     show(row(1, 2, 3, 4, 5, 6, 7), 65535, 255);
 }
 
+// Marks of more than sixteen bits: twelve items at the greatest mark, and the first player of document 000, section 2.
+fn large() {
+    show(
+        [Sheet::GREATEST_MARK as Mark; Sheet::ITEMS],
+        Sheet::SETS - 1,
+        1,
+    );
+    show(
+        [Sheet::GREATEST_MARK as Mark; Sheet::ITEMS],
+        Sheet::SETS - 1,
+        5,
+    );
+    show(
+        [Sheet::GREATEST_MARK as Mark; Sheet::ITEMS],
+        Sheet::SETS - 1,
+        6,
+    );
+    show(
+        [
+            1017003,
+            1024999,
+            1011999,
+            1000999,
+            1002000,
+            1022000,
+            1003000,
+            1028000,
+            1011000,
+            1000000,
+            1021000,
+            1023000,
+        ],
+        Sheet::SETS - 1,
+        3,
+    );
+}
+
 // Seven values, and no others.
-fn row(a: u16, b: u16, c: u16, d: u16, e: u16, f: u16, g: u16) -> Row {
-    let mut values = [0u16; Sheet::ITEMS];
+fn row(a: Mark, b: Mark, c: Mark, d: Mark, e: Mark, f: Mark, g: Mark) -> Row {
+    let mut values: Row = [0; Sheet::ITEMS];
     values[0] = a;
     values[1] = b;
     values[2] = c;

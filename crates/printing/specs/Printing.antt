@@ -1,6 +1,7 @@
 -- What printing a table's division into a lent buffer answers. Assumes nothing: these are definitions.
 use mathlib.Core.List.{List}
-use Prim.Native.Nat.{ℕ}
+use Prim.Native.Nat.{ℕ, _+_, _*_}
+use Rattle.sheet.specs.Limits.{mostAgents, mostItems, sumDigits}
 use Rattle.sheet.specs.Answers.{Answer, andThen}
 use Rattle.writing.specs.Filled.{filling}
 use Rattle.rounds.specs.Division as division
@@ -10,6 +11,26 @@ use Rattle.printing.specs.Printed.{printed}
 unfoldable pub printing : ℕ → ℕ → List (List ℕ) → ℕ → Answer (List ℕ)
 printing agents items table room = andThen (division.answer agents items table) (λ d. filling room (printed agents items table d))
 
--- a buffer of so many bytes is long enough for every table within the limits (proofs/Longest.antt)
+-- the most bytes of the head of a table within the limits: (division (yards 6) (pieces 12) (grade 4)) and the line feed
+abbrev pub longestHead : ℕ
+longestHead = 43
+
+-- the most bytes of a pile, and of a cut: at most three for each piece, and the brackets of six piles
+abbrev pub longestPile : ℕ
+longestPile = 7 + 3 * mostItems
+
+abbrev pub longestCut : ℕ
+longestCut = 6 + 3 * mostAgents + 3 * mostItems
+
+-- the most bytes of a yard line: (yard 6 (worth ) (share )) and the line feed, the digits of two sums, a pile and a cut
+abbrev pub longestYard : ℕ
+longestYard = 27 + 2 * sumDigits + longestPile + longestCut
+
+-- the most bytes of the cutters line: a round for each yard
+abbrev pub longestCutters : ℕ
+longestCutters = 10 + 2 * mostAgents
+
+-- a buffer of so many bytes is long enough for every table within the limits (proofs/printed/Longest.antt): the head, a line for each yard,
+-- the cutters, and (end) with the line feed
 abbrev pub longestPrinted : ℕ
-longestPrinted = 1100
+longestPrinted = longestHead + mostAgents * longestYard + longestCutters + 6

@@ -11,6 +11,7 @@ ghost use Rattle.printing.specs.internal.OutcomeText.{outcomeText};
 use crate::lines::put_division;
 use division::Outcome;
 use division::divide;
+use sheet::Sheet;
 use sheet::Table;
 use writing::Answer;
 use writing::put_bytes;
@@ -18,8 +19,21 @@ use writing::put_bytes;
 mod cutters;
 mod lines;
 
-// A buffer of so many bytes is long enough for every division.
-pub const LONGEST: usize = 1100;
+// The most bytes of the head.
+const LONGEST_HEAD: usize = 43;
+
+// The most bytes of a pile, a cut and a yard line.
+const LONGEST_PILE: usize = 7 + 3 * Sheet::ITEMS;
+
+const LONGEST_CUT: usize = 6 + 3 * Sheet::AGENTS + 3 * Sheet::ITEMS;
+
+const LONGEST_YARD: usize = 27 + 2 * Sheet::SUM_DIGITS + LONGEST_PILE + LONGEST_CUT;
+
+// The most bytes of the line of the cutters.
+const LONGEST_CUTTERS: usize = 10 + 2 * Sheet::AGENTS;
+
+// A buffer of so many bytes is long enough for every division: the head, a line for each agent, the cutters, and the last line.
+pub const LONGEST: usize = LONGEST_HEAD + Sheet::AGENTS * LONGEST_YARD + LONGEST_CUTTERS + 6;
 
 // Prints an outcome; refused with 10 where the buffer is shorter than the text.
 fn print_outcome(

@@ -1,8 +1,11 @@
 -- Laws of the definitions: what is kept of marks and lines while they are read, how many are read, the table of an outcome, what
--- follows reading, the samples by computation, and that spaces, remarks and blank lines count for nothing.
+-- follows reading, what an accepted text has, the samples by computation, that spaces, remarks and blank lines count for nothing, and that
+-- wider limits of a mark refuse no text accepted before.
 pub mod kept
 pub mod Shape
 pub mod OutcomeTable
 pub mod Composed
 pub mod Samples
 pub mod Respaced
+pub mod Accepted
+pub mod WiderMarks

@@ -1,10 +1,11 @@
--- Sample sheet a of document 01, of its sample j all but the text of 4,097 bytes, and texts as order 1 of document 02 has them, by
--- computation. Assumes nothing.
+-- Sample sheet a of document 01, of its sample j, as order 3 of document 02 has it, all but the text of 4,097 bytes, and texts as order 1
+-- has them, by computation. Assumes nothing.
 use mathlib.Core.Path.{_≡_, refl}
 use mathlib.Core.List.{List, [], _∷_, _++_, map, flatMap}
 use lib.ListN.{replicate}
 use Prim.Native.Nat.{ℕ}
 use Prim.Native.String.{String}
+use Rattle.sheet.specs.Limits.{earlierMarkLimits}
 use Rattle.sheet.specs.Answers.{Answer, refused, accepted}
 use Rattle.text.specs.Bytes.{bytes}
 use Rattle.lexing.specs.Lines.{space, onFirst, lines, beforeRemark}
@@ -12,7 +13,7 @@ use Rattle.lexing.specs.Tokens.{extended, words, lineTokens, tokens}
 use Rattle.lexing.specs.Forms.{follow, inTurn}
 use Rattle.lexing.specs.Numbers.{numberAfter, number, digitsAfter, isNumber}
 use Rattle.reading.specs.Grammar.{endLine, yardLine, yardTurn, head}
-use Rattle.reading.specs.Reading.{Contents, reading, tableOf}
+use Rattle.reading.specs.Reading.{Contents, readingWithin, reading, tableOf}
 
 -- the contents of a text with these counts and these rows of marks
 abbrev contents : ℕ → ℕ → List (List ℕ) → Answer Contents
@@ -28,12 +29,21 @@ samples =
     ∷ ("(sheet (yards 1) (pieces 12))\n(yard 1 (marks 1 2 3 4 5 6 7 8 9 10 11 12))\n(end)\n", contents 1 12 ((1 ∷ 2 ∷ 3 ∷ 4 ∷ 5 ∷ 6 ∷ 7 ∷ 8 ∷ 9 ∷ 10 ∷ 11 ∷ 12 ∷ []) ∷ []))
     ∷ ("(sheet (yards 1) (pieces 0))\n(yard 1 (marks))\n(end)\n", refused 5)
     ∷ ("(sheet (yards 1) (pieces 13))\n(end)\n", refused 5)
-    ∷ ("(sheet (yards 1) (pieces 1))\n(yard 1 (marks 65535))\n(end)\n", contents 1 1 ((65535 ∷ []) ∷ []))
+    ∷ ("(sheet (yards 1) (pieces 1))\n(yard 1 (marks 4294967295))\n(end)\n", contents 1 1 ((4294967295 ∷ []) ∷ []))
+    ∷ ("(sheet (yards 1) (pieces 1))\n(yard 1 (marks 4294967296))\n(end)\n", refused 8)
+    ∷ ("(sheet (yards 1) (pieces 1))\n(yard 1 (marks 9999999999))\n(end)\n", refused 8)
+    ∷ ("(sheet (yards 1) (pieces 1))\n(yard 1 (marks 10000000000))\n(end)\n", refused 6)
+    ∷ ("(sheet (yards 1) (pieces 1))\n(yard 1 (marks 05))\n(end)\n", refused 6)
+    ∷ ("(sheet (yards 7) (pieces 1))\n(yard 1 (marks 5000000000))\n(end)\n", refused 4)
+    ∷ []
+
+-- what sample j said of marks before order 3
+abbrev pub samples-before : List (String × Answer Contents)
+samples-before =
+    ("(sheet (yards 1) (pieces 1))\n(yard 1 (marks 65535))\n(end)\n", contents 1 1 ((65535 ∷ []) ∷ []))
     ∷ ("(sheet (yards 1) (pieces 1))\n(yard 1 (marks 65536))\n(end)\n", refused 8)
     ∷ ("(sheet (yards 1) (pieces 1))\n(yard 1 (marks 99999))\n(end)\n", refused 8)
     ∷ ("(sheet (yards 1) (pieces 1))\n(yard 1 (marks 100000))\n(end)\n", refused 6)
-    ∷ ("(sheet (yards 1) (pieces 1))\n(yard 1 (marks 05))\n(end)\n", refused 6)
-    ∷ ("(sheet (yards 7) (pieces 1))\n(yard 1 (marks 70000))\n(end)\n", refused 4)
     ∷ []
 
 -- texts with spaces, remarks and blank lines
@@ -54,6 +64,10 @@ typed =
 pub samples-read : map (λ p. reading (bytes (p .0))) samples ≡ map (λ p. p .1) samples
 unfolding reading endLine yardLine yardTurn head numberAfter number digitsAfter isNumber follow inTurn onFirst lines beforeRemark extended words lineTokens tokens flatMap
 samples-read = refl
+
+pub samples-read-before : map (λ p. readingWithin earlierMarkLimits (bytes (p .0))) samples-before ≡ map (λ p. p .1) samples-before
+unfolding endLine yardLine yardTurn head numberAfter number digitsAfter isNumber follow inTurn onFirst lines beforeRemark extended words lineTokens tokens flatMap
+samples-read-before = refl
 
 pub typed-read : map (λ p. reading (bytes (p .0))) typed ≡ map (λ p. p .1) typed
 unfolding reading endLine yardLine yardTurn head numberAfter number digitsAfter isNumber follow inTurn onFirst lines beforeRemark extended words lineTokens tokens flatMap

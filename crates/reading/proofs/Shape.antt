@@ -5,7 +5,6 @@ use mathlib.Core.Option.{some}
 use Prim.Native.Nat.{ℕ}
 use lib.ListN.{length}
 use Rattle.lists.proofs.members.Each.{AllOfLength}
-use Rattle.sheet.specs.Limits.{markDigits}
 use Rattle.lexing.specs.Tokens.{Token}
 use Rattle.lexing.specs.Forms.{form, follow}
 use Rattle.lexing.specs.Numbers.{number}
@@ -13,18 +12,20 @@ use Rattle.lexing.proofs.readers.InTurn.{Holds, then-holds, read-holds, holds-b
 use Rattle.reading.specs.SheetForms.{lineEnd}
 use Rattle.reading.specs.Grammar.{marks, yardTurn, yardLine, yardLines}
 
-yard-line-length : (items turn : ℕ) (ts : List Token) → Holds (λ r. length (r .0) ≡ items) (yardLine items turn ts)
-unfolding yardLine
-yard-line-length items turn ts =
-    read-holds _ (yardTurn turn ts) _ (λ ts₁.
-    then-holds _ (λ r. length (r .0) ≡ items) (marks items ts₁) _ (in-turn-length (λ piece. number markDigits) 1 items ts₁)
-    (λ r e. read-holds _ (follow (form lineEnd) (r .1)) _ (λ ts₂. e)))
+module _ (digits : ℕ) where
+  yard-line-length : (items turn : ℕ) (ts : List Token) → Holds (λ r. length (r .0) ≡ items) (yardLine digits items turn ts)
+  unfolding yardLine
+  yard-line-length items turn ts =
+      read-holds _ (yardTurn turn ts) _ (λ ts₁.
+      then-holds _ (λ r. length (r .0) ≡ items) (marks digits items ts₁) _ (in-turn-length (λ piece. number digits) 1 items ts₁)
+      (λ r e. read-holds _ (follow (form lineEnd) (r .1)) _ (λ ts₂. e)))
 
-yard-lines-shape : (agents items : ℕ) (ts : List Token) → Holds (λ r. (length (r .0) ≡ agents) × AllOfLength items (r .0)) (yardLines agents items ts)
-yard-lines-shape agents items ts =
-    holds-both _ _ (yardLines agents items ts) (in-turn-length (yardLine items) 1 agents ts) (in-turn-each (yardLine items) (λ row. length row ≡ items) (yard-line-length items) 1 agents ts)
+  yard-lines-shape : (agents items : ℕ) (ts : List Token) → Holds (λ r. (length (r .0) ≡ agents) × AllOfLength items (r .0)) (yardLines digits agents items ts)
+  yard-lines-shape agents items ts =
+      let line = yardLine digits items in
+      holds-both _ _ (yardLines digits agents items ts) (in-turn-length line 1 agents ts) (in-turn-each line (λ row. length row ≡ items) (yard-line-length items) 1 agents ts)
 
--- as many lines as there are yards, and in each as many marks as there are pieces
-pub lines-read-shape : (agents items : ℕ) (ts : List Token) (rows : List (List ℕ)) (ts′ : List Token) → yardLines agents items ts ≡ some (rows, ts′)
-    → (length rows ≡ agents) × AllOfLength items rows
-lines-read-shape agents items ts rows ts′ e = rw e at (yard-lines-shape agents items ts)
+  -- as many lines as there are yards, and in each as many marks as there are pieces
+  pub lines-read-shape : (agents items : ℕ) (ts : List Token) (rows : List (List ℕ)) (ts′ : List Token) → yardLines digits agents items ts ≡ some (rows, ts′)
+      → (length rows ≡ agents) × AllOfLength items rows
+  lines-read-shape agents items ts rows ts′ e = rw e at (yard-lines-shape agents items ts)

@@ -4,7 +4,7 @@ use mathlib.Core.List.{List}
 use mathlib.Core.Option.{Option, none, some}
 use mathlib.Core.Bool.{Bool, false, cond}
 use lib.Dec.{eqb}
-use Rattle.sheet.specs.Limits.{countDigits, markDigits}
+use Rattle.sheet.specs.Limits.{countDigits}
 use Rattle.lexing.specs.Tokens.{Token}
 use Rattle.lexing.specs.Forms.{_>>=_, ended, follow, form, inTurn}
 use Rattle.lexing.specs.Numbers.{number, numberAfter}
@@ -18,9 +18,9 @@ head ts₀ = do
   ts₃ ← follow (form lineEnd) ts₂
   some (agents, items, ts₃)
 
--- "one mark for each piece"
-abbrev pub marks : ℕ → List Token → Option (List ℕ × List Token)
-marks items ts = inTurn (λ piece. number markDigits) 1 items ts
+-- "one mark for each piece", each in one to so many digits
+abbrev pub marks : ℕ → ℕ → List Token → Option (List ℕ × List Token)
+marks digits items ts = inTurn (λ piece. number digits) 1 items ts
 
 -- the number of a yard line, in its turn: (yard 1 (marks
 unfoldable pub yardTurn : ℕ → List Token → Option (List Token)
@@ -30,16 +30,16 @@ yardTurn turn ts₀ = do
   follow (form beforeMarks) ts₂
 
 -- the line of one yard: (yard 1 (marks 5 3 4))
-unfoldable pub yardLine : ℕ → ℕ → List Token → Option (List ℕ × List Token)
-yardLine items turn ts₀ = do
+unfoldable pub yardLine : ℕ → ℕ → ℕ → List Token → Option (List ℕ × List Token)
+yardLine digits items turn ts₀ = do
   ts₁ ← yardTurn turn ts₀
-  (row, ts₂) ← marks items ts₁
+  (row, ts₂) ← marks digits items ts₁
   ts₃ ← follow (form lineEnd) ts₂
   some (row, ts₃)
 
 -- "Then comes one line a yard, from yard 1 upward"
-abbrev pub yardLines : ℕ → ℕ → List Token → Option (List (List ℕ) × List Token)
-yardLines agents items ts = inTurn (yardLine items) 1 agents ts
+abbrev pub yardLines : ℕ → ℕ → ℕ → List Token → Option (List (List ℕ) × List Token)
+yardLines digits agents items ts = inTurn (yardLine digits items) 1 agents ts
 
 -- whether something was followed to the end of the text
 abbrev pub endedAfter : Option (List Token) → Bool

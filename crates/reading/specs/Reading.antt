@@ -6,7 +6,7 @@ use Prim.Native.Nat.{ℕ}
 use lib.ListN.{length}
 use lib.Dec.{leb, ltb}
 use Rattle.lists.specs.Lists.{padded, all}
-use Rattle.sheet.specs.Limits.{mostAgents, mostItems, greatestMark, longestText, within, blankRow}
+use Rattle.sheet.specs.Limits.{MarkLimits, mostAgents, mostItems, markLimits, longestText, within, blankRow}
 use Rattle.sheet.specs.Answers.{Answer, accepted, require, requireSome}
 use Rattle.lexing.specs.Tokens.{tokens}
 use Rattle.reading.specs.Grammar.{head, yardLines, endLine}
@@ -17,12 +17,12 @@ pub record Contents : Type 0 where
   pub items : ℕ
   pub table : List (List ℕ)
 
--- "A mark is a whole number from 0 to 65,535": whether a mark is allowed, and whether all marks of a row are
-abbrev pub allowed : ℕ → Bool
-allowed mark = leb mark greatestMark
+-- "A mark is a whole number from 0 to" the greatest: whether a mark is allowed, and whether all marks of a row are
+abbrev pub allowed : ℕ → ℕ → Bool
+allowed greatest mark = leb mark greatest
 
-abbrev pub allowedRow : List ℕ → Bool
-allowedRow row = all allowed row
+abbrev pub allowedRow : ℕ → List ℕ → Bool
+allowedRow greatest row = all (allowed greatest) row
 
 -- "six rows of twelve places": places beyond those in use are 0
 abbrev pub tableOf : List (List ℕ) → List (List ℕ)
@@ -36,15 +36,19 @@ tableOf rows = padded mostAgents blankRow (map (padded mostItems 0) rows)
 -- 5: "The number of pieces lies outside 1 to 12"
 -- 6: "One of the lines due for the yards is missing, malformed, out of turn, or has another count of marks than the pieces"
 -- 7: "After the yard lines stands anything but the line `(end)` and the end of the text"
--- 8: "A mark is above 65,535"
-unfoldable pub reading : List ℕ → Answer Contents
-reading text =
+-- 8: "A mark is above" the greatest
+abbrev pub readingWithin : MarkLimits → List ℕ → Answer Contents
+readingWithin limits text =
     require 1 (leb (length text) longestText)
     (require 2 (ltb 0 (length text))
     (requireSome 3 (head (tokens text)) (λ (agents, items, ts₁).
     require 4 (within mostAgents agents)
     (require 5 (within mostItems items)
-    (requireSome 6 (yardLines agents items ts₁) (λ (rows, ts₂).
+    (requireSome 6 (yardLines (limits .digits) agents items ts₁) (λ (rows, ts₂).
     require 7 (endLine ts₂)
-    (require 8 (all allowedRow rows)
+    (require 8 (all (allowedRow (limits .greatest)) rows)
     (accepted (record { agents = agents; items = items; table = tableOf rows })))))))))
+
+-- the limits of a mark are those of order 3 of document 02
+unfoldable pub reading : List ℕ → Answer Contents
+reading text = readingWithin markLimits text

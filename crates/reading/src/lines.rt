@@ -2,7 +2,7 @@
 ghost use Prim.Native.Nat.{_≤_};
 ghost use mathlib.Core.Path.{_≡_};
 ghost use mathlib.Core.Bool.{false, _&&_};
-ghost use Rattle.sheet.specs.Limits.{mostAgents, mostItems};
+ghost use Rattle.sheet.specs.Limits.{mostAgents, mostItems, markDigits};
 ghost use Rattle.lexing.specs.Places.{tokensAt};
 ghost use Rattle.lexing.specs.Results.{Follows};
 ghost use Rattle.reading.specs.Grammar.{head, marks, yardTurn, yardLine, yardLines, endLine};
@@ -23,6 +23,7 @@ use lexing::forms::number_after;
 use lexing::forms::read_number;
 use lexing::tokens::Cursor;
 use lexing::tokens::ended;
+use sheet::Mark;
 use sheet::Row;
 use sheet::Sheet;
 
@@ -89,9 +90,9 @@ fn unread(c: Cursor) -> Line
 // As many marks as there are pieces.
 fn read_marks(s: &[u8], c: Cursor, items: usize) -> Line
     requires { ⌜ items ≤ mostItems ⌝ }
-    ensures { λ r. ⌜ ReadsLine (now (s .entry)) r (keptMarks (marks items (tokensAt (now (s .entry)) c))) ⌝ }
+    ensures { λ r. ⌜ ReadsLine (now (s .entry)) r (keptMarks (marks markDigits items (tokensAt (now (s .entry)) c))) ⌝ }
 {
-    let mut row = [0u16; Sheet::ITEMS];
+    let mut row: Row = [0; Sheet::ITEMS];
     let mut allowed = true;
     let mut here = c;
     let mut k = 0;
@@ -99,7 +100,7 @@ fn read_marks(s: &[u8], c: Cursor, items: usize) -> Line
         let Number::Value(m, next) = read_number(s, here, Sheet::MARK_DIGITS) else {
             return unread(here);
         };
-        row[k] = (m % MARK_VALUES) as u16;
+        row[k] = (m % MARK_VALUES) as Mark;
         allowed = both(allowed, m <= Sheet::GREATEST_MARK);
         here = next;
         k += 1;
@@ -129,7 +130,7 @@ fn yard_in_turn(s: &[u8], c: Cursor, turn: usize) -> Followed
 // (yard 1 (marks 5 3 4))
 fn yard_line(s: &[u8], c: Cursor, turn: usize, items: usize) -> Line
     requires { ⌜ items ≤ mostItems ⌝ }
-    ensures { λ r. ⌜ ReadsLine (now (s .entry)) r (keptMarks (yardLine items turn (tokensAt (now (s .entry)) c))) ⌝ }
+    ensures { λ r. ⌜ ReadsLine (now (s .entry)) r (keptMarks (yardLine markDigits items turn (tokensAt (now (s .entry)) c))) ⌝ }
 {
     let Followed::At(c1) = yard_in_turn(s, c, turn) else {
         return unread(c);
@@ -151,7 +152,7 @@ fn yard_line(s: &[u8], c: Cursor, turn: usize, items: usize) -> Line
 pub(crate) fn yard_lines(s: &[u8], c: Cursor, agents: usize, items: usize) -> Lines
     requires { ⌜ agents ≤ mostAgents ⌝ }
     requires { ⌜ items ≤ mostItems ⌝ }
-    ensures { λ r. ⌜ ReadsLines (now (s .entry)) r (keptLines (yardLines agents items (tokensAt (now (s .entry)) c))) ⌝ }
+    ensures { λ r. ⌜ ReadsLines (now (s .entry)) r (keptLines (yardLines markDigits agents items (tokensAt (now (s .entry)) c))) ⌝ }
 {
     let mut rows = blank_rows();
     let mut allowed = true;

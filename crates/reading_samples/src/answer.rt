@@ -6,8 +6,8 @@ use sheet::Row;
 use sheet::Sheet;
 use sheet::Table;
 
-// Room for the texts that are joined here.
-const ROOM: usize = 640;
+// Room for the texts that are joined here: as long as a text may be.
+const ROOM: usize = Sheet::LONGEST_TEXT;
 
 // Prints bytes.
 pub(crate) fn print(bytes: &[u8]) {

@@ -28,12 +28,12 @@ fn samples() {
         b"",
         b"sheet a|(sheet (yards 2) (pieces 3))\n(yard 1 (marks 5 3 4))\n(yard 2 (marks 6 2 2))\n(end)\n|\
         largest sheet|(sheet (yards 6) (pieces 12))\n\
-        (yard 1 (marks 65535 65535 65535 65535 65535 65535 65535 65535 65535 65535 65535 65535))\n\
-        (yard 2 (marks 65535 65535 65535 65535 65535 65535 65535 65535 65535 65535 65535 65535))\n\
-        (yard 3 (marks 65535 65535 65535 65535 65535 65535 65535 65535 65535 65535 65535 65535))\n\
-        (yard 4 (marks 65535 65535 65535 65535 65535 65535 65535 65535 65535 65535 65535 65535))\n\
-        (yard 5 (marks 65535 65535 65535 65535 65535 65535 65535 65535 65535 65535 65535 65535))\n\
-        (yard 6 (marks 65535 65535 65535 65535 65535 65535 65535 65535 65535 65535 65535 65535))\n(end)\n|\
+        (yard 1 (marks 4294967295 4294967295 4294967295 4294967295 4294967295 4294967295 4294967295 4294967295 4294967295 4294967295 4294967295 4294967295))\n\
+        (yard 2 (marks 4294967295 4294967295 4294967295 4294967295 4294967295 4294967295 4294967295 4294967295 4294967295 4294967295 4294967295 4294967295))\n\
+        (yard 3 (marks 4294967295 4294967295 4294967295 4294967295 4294967295 4294967295 4294967295 4294967295 4294967295 4294967295 4294967295 4294967295))\n\
+        (yard 4 (marks 4294967295 4294967295 4294967295 4294967295 4294967295 4294967295 4294967295 4294967295 4294967295 4294967295 4294967295 4294967295))\n\
+        (yard 5 (marks 4294967295 4294967295 4294967295 4294967295 4294967295 4294967295 4294967295 4294967295 4294967295 4294967295 4294967295 4294967295))\n\
+        (yard 6 (marks 4294967295 4294967295 4294967295 4294967295 4294967295 4294967295 4294967295 4294967295 4294967295 4294967295 4294967295 4294967295))\n(end)\n|\
         smallest sheet|(sheet (yards 1) (pieces 1))\n(yard 1 (marks 0))\n(end)\n|",
         b"",
     );
@@ -66,7 +66,7 @@ fn marks() {
     cases::values(
         b"mark ",
         b"(sheet (yards 1) (pieces 3))\n(yard 1 (marks 8 ",
-        b"0|9|10|65534|65535|65536|65537|70000|99999|100000|131072|05|00|000000||12345678901234567890|18446744073709551617|99999999999999999999999999|-1|+1|1.|1,000|0x1|x|()|",
+        b"0|9|10|65534|65535|65536|65537|70000|99999|100000|131072|4294967294|4294967295|4294967296|4294967297|4295032831|5000000000|9999999999|10000000000|05|00|000000||12345678901234567890|18446744073709551617|99999999999999999999999999|-1|+1|1.|1,000|0x1|x|()|",
         b" 9))\n(end)\n",
     );
 }
@@ -75,16 +75,16 @@ fn marks() {
 fn orders() {
     cases::named(
         b"",
-        b"7 yards and a large mark|(sheet (yards 7) (pieces 1))\n(yard 1 (marks 70000))\n(end)\n|\
+        b"7 yards and a large mark|(sheet (yards 7) (pieces 1))\n(yard 1 (marks 5000000000))\n(end)\n|\
         0 yards and 13 pieces|(sheet (yards 0) (pieces 13))\n(end)\n|\
         13 pieces and a malformed line|(sheet (yards 1) (pieces 13))\n(yard\n(end)\n|\
         malformed line and no end|(sheet (yards 1) (pieces 1))\n(yard 1 (marks 05))\n|\
-        large mark, then a malformed line|(sheet (yards 2) (pieces 1))\n(yard 1 (marks 70000))\n(yard 2 (marks 05))\n(end)\n|\
-        large mark, then a missing line|(sheet (yards 2) (pieces 1))\n(yard 1 (marks 70000))\n(end)\n|\
-        large mark, then a long one|(sheet (yards 2) (pieces 1))\n(yard 1 (marks 70000))\n(yard 2 (marks 100000))\n(end)\n|\
-        large mark and no end|(sheet (yards 2) (pieces 1))\n(yard 1 (marks 70000))\n(yard 2 (marks 1))\n|\
-        large mark and a blank line after the end|(sheet (yards 2) (pieces 1))\n(yard 1 (marks 1))\n(yard 2 (marks 70000))\n(end)\n\n|\
-        large mark alone|(sheet (yards 2) (pieces 1))\n(yard 1 (marks 1))\n(yard 2 (marks 70000))\n(end)\n|\
+        large mark, then a malformed line|(sheet (yards 2) (pieces 1))\n(yard 1 (marks 5000000000))\n(yard 2 (marks 05))\n(end)\n|\
+        large mark, then a missing line|(sheet (yards 2) (pieces 1))\n(yard 1 (marks 5000000000))\n(end)\n|\
+        large mark, then a long one|(sheet (yards 2) (pieces 1))\n(yard 1 (marks 5000000000))\n(yard 2 (marks 10000000000))\n(end)\n|\
+        large mark and no end|(sheet (yards 2) (pieces 1))\n(yard 1 (marks 5000000000))\n(yard 2 (marks 1))\n|\
+        large mark and a blank line after the end|(sheet (yards 2) (pieces 1))\n(yard 1 (marks 1))\n(yard 2 (marks 5000000000))\n(end)\n\n|\
+        large mark alone|(sheet (yards 2) (pieces 1))\n(yard 1 (marks 1))\n(yard 2 (marks 5000000000))\n(end)\n|\
         head without its line feed|(sheet (yards 1) (pieces 1))|\
         no byte||\
         line feed alone|\n|\
@@ -191,7 +191,7 @@ fn typed() {
         mark split|(sheet (yards 1) (pieces 2))\n(yard 1 (marks 5 6 5))\n(end)\n|\
         yard line over two lines|(sheet (yards 1) (pieces 2))\n(yard 1\n  (marks 5 6))\n(end)\n|\
         tab on a line of its own|(sheet (yards 1) (pieces 2))\n\t\n(yard 1 (marks 5 6))\n(end)\n|\
-        large mark and a line after the end|( sheet (yards 1)(pieces 2)) ;\n\n(yard 1 (marks 5 70000))\n(end)\nx\n|",
+        large mark and a line after the end|( sheet (yards 1)(pieces 2)) ;\n\n(yard 1 (marks 5 5000000000))\n(end)\nx\n|",
         b"",
     );
 }

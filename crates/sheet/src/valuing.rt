@@ -6,6 +6,7 @@ ghost use Rattle.sheet.specs.Limits.{valueBound, greatestSum};
 ghost use Rattle.sheet.specs.Sets.{itemsOf};
 ghost use Rattle.sheet.specs.Valuations.{itemValue, valuesOf, value};
 ghost use Rattle.sheet.specs.Listed.{valued};
+use crate::Mark;
 use crate::Row;
 use crate::Sheet;
 use crate::naming::items_of;
@@ -17,7 +18,7 @@ pub struct Values {
 }
 
 // A mark as a value, with a bound that its type gives.
-fn wide(mark: u16) -> u64
+fn wide(mark: Mark) -> u64
     ensures { λ r. ⌜ (r ≡ mark) × (mark < valueBound) ⌝ }
 {
     mark as u64

@@ -14,7 +14,7 @@ use Rattle.sheet.specs.Valuations.{itemValue}
 use Rattle.sheet.specs.Tables.{valuation}
 use Rattle.sheet.proofs.Limits.{within-bounds}
 use Rattle.reading.specs.Reading.{Contents, reading, allowed, allowedRow, tableOf}
-use Rattle.strict_text.proofs.Accepted.{accepted-text}
+use Rattle.reading.proofs.Accepted.{accepted-text}
 use Rattle.rounds.specs.Division.{divisionByRounds}
 use Rattle.printing.specs.Printed.{printed}
 use Rattle.printing.specs.Printing.{longestPrinted, printing}
@@ -25,11 +25,11 @@ use Rattle.sheet_to_division.specs.ShareOut.{shareOut}
 Small : List ℕ → Type 0
 Small row = (k : ℕ) → getD row k 0 ≤ greatestMark
 
-row-small : (row : List ℕ) (n : ℕ) → allowedRow row ≡ true → Small (row ++ zeros n)
+row-small : (row : List ℕ) (n : ℕ) → allowedRow greatestMark row ≡ true → Small (row ++ zeros n)
 unfolding Small
 row-small [] n each k = omega (arith, getD-zeros n k)
-row-small (mark ∷ row) n each zero = leb-true mark greatestMark (and-eq-true-iff (allowed mark) (allowedRow row) .0 each .0)
-row-small (mark ∷ row) n each (suc k) = row-small row n (and-eq-true-iff (allowed mark) (allowedRow row) .0 each .1) k
+row-small (mark ∷ row) n each zero = leb-true mark greatestMark (and-eq-true-iff (allowed greatestMark mark) (allowedRow greatestMark row) .0 each .0)
+row-small (mark ∷ row) n each (suc k) = row-small row n (and-eq-true-iff (allowed greatestMark mark) (allowedRow greatestMark row) .0 each .1) k
 
 blank-small : (n i : ℕ) → Small (getD (replicate n blankRow) i [])
 unfolding Small
@@ -37,13 +37,13 @@ blank-small zero i k = omega arith
 blank-small (suc n) zero k = omega (arith, getD-zeros mostItems k)
 blank-small (suc n) (suc i) k = blank-small n i k
 
-rows-small : (rows : List (List ℕ)) (n i : ℕ) → all allowedRow rows ≡ true → Small (getD (map (padded mostItems 0) rows ++ replicate n blankRow) i [])
+rows-small : (rows : List (List ℕ)) (n i : ℕ) → all (allowedRow greatestMark) rows ≡ true → Small (getD (map (padded mostItems 0) rows ++ replicate n blankRow) i [])
 rows-small [] n i each = blank-small n i
-rows-small (row ∷ rows) n zero each = row-small row (mostItems - length row) (and-eq-true-iff (allowedRow row) (all allowedRow rows) .0 each .0)
-rows-small (row ∷ rows) n (suc i) each = rows-small rows n i (and-eq-true-iff (allowedRow row) (all allowedRow rows) .0 each .1)
+rows-small (row ∷ rows) n zero each = row-small row (mostItems - length row) (and-eq-true-iff (allowedRow greatestMark row) (all (allowedRow greatestMark) rows) .0 each .0)
+rows-small (row ∷ rows) n (suc i) each = rows-small rows n i (and-eq-true-iff (allowedRow greatestMark row) (all (allowedRow greatestMark) rows) .0 each .1)
 
 -- the marks of a table that is read
-small : (rows table : List (List ℕ)) → table ≡ tableOf rows → all allowedRow rows ≡ true → (i k : ℕ) → itemValue (valuation table i) k ≤ greatestMark
+small : (rows table : List (List ℕ)) → table ≡ tableOf rows → all (allowedRow greatestMark) rows ≡ true → (i k : ℕ) → itemValue (valuation table i) k ≤ greatestMark
 unfolding Small
 small rows table full each i k =
     omega (arith, ap (λ t. itemValue (valuation t i) k) full, rows-small rows (mostAgents - length (map (padded mostItems 0) rows)) (i - 1) each (k - 1))

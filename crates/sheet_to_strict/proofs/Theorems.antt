@@ -13,7 +13,7 @@ use Rattle.writing.specs.Filled.{filling}
 use Rattle.reading.specs.Reading.{Contents, reading}
 use Rattle.strict_text.specs.StrictText.{strictText, longestStrict}
 use Rattle.strict_text.specs.WithinLimits.{WithinLimits}
-use Rattle.strict_text.proofs.Accepted.{accepted-injective}
+use Rattle.reading.proofs.Accepted.{accepted-injective}
 use Rattle.strict_text.proofs.RoundTrip.{strictText-read, accepted-read-back, strictText-same-iff}
 use Rattle.sheet_to_strict.specs.Rewriting.{rewriting}
 use Rattle.sheet_to_strict.proofs.Accepted.{accepted-written}

@@ -8,6 +8,5 @@ pub mod TokensRead
 pub mod InUse
 pub mod WithinLimits
 pub mod TextLength
-pub mod Accepted
 pub mod RoundTrip
 pub mod Samples

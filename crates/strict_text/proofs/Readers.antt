@@ -10,7 +10,7 @@ use Rattle.lists.specs.Lists.{all}
 use Rattle.text.specs.Bytes.{bytes}
 use Rattle.text.specs.Decimal.{decimal}
 use Rattle.lexing.specs.Tokens.{Token}
-use Rattle.sheet.specs.Limits.{countDigits, markDigits}
+use Rattle.sheet.specs.Limits.{countDigits}
 use Rattle.lexing.specs.Forms.{_>>=_, same, form, follow, inTurn}
 use Rattle.lexing.specs.Numbers.{isNumber, digitsAfter, number, numberAfter}
 use Rattle.reading.specs.SheetForms.{beforeAgents, beforeItems, beforeTurn, beforeMarks, lineEnd, lastLine}
@@ -100,9 +100,9 @@ unfolding tokensInTurn
 decimals-in-turn turn [] = refl
 decimals-in-turn turn (n ∷ ns) = ap (λ l. decimal n ∷ l) (decimals-in-turn (turn + 1) ns)
 
-marks-inverse : (n : ℕ) (ts : List Token) (r : List ℕ × List Token) → marks n ts ≡ some r → ts ≡ map decimal (r .0) ++ r .1
-marks-inverse n ts r e =
-    inTurn-inverse (λ piece. number markDigits) (λ piece m. decimal m ∷ []) (λ piece. number-inverse markDigits) 1 n ts r e
+marks-inverse : (digits n : ℕ) (ts : List Token) (r : List ℕ × List Token) → marks digits n ts ≡ some r → ts ≡ map decimal (r .0) ++ r .1
+marks-inverse digits n ts r e =
+    inTurn-inverse (λ piece. number digits) (λ piece m. decimal m ∷ []) (λ piece. number-inverse digits) 1 n ts r e
     ∙ ap (λ l. l ++ r .1) (decimals-in-turn 1 (r .0))
 
 yardTurn-inverse : (turn : ℕ) (ts ts′ : List Token) → yardTurn turn ts ≡ some ts′ → ts ≡ turnTokens turn ++ ts′
@@ -116,21 +116,21 @@ yardTurn-inverse turn ts ts′ e =
     let to-marks = follow-inverse (form beforeMarks) (turned .first) ts′ (tokens-have-bytes (bytes beforeMarks)) (turned .then-read) in
     simp append-assoc (cc)
 
-yardLine-inverse : (items turn : ℕ) (ts : List Token) (r : List ℕ × List Token) → yardLine items turn ts ≡ some r → ts ≡ yardTokens turn (r .0) ++ r .1
+yardLine-inverse : (digits items turn : ℕ) (ts : List Token) (r : List ℕ × List Token) → yardLine digits items turn ts ≡ some r → ts ≡ yardTokens turn (r .0) ++ r .1
 unfolding yardLine yardTokens
-yardLine-inverse items turn ts r e =
+yardLine-inverse digits items turn ts r e =
     let start = bound (yardTurn turn ts) _ r e in
-    let row = bound (marks items (start .first)) _ r (start .then-read) in
+    let row = bound (marks digits items (start .first)) _ r (start .then-read) in
     let line = bound (follow (form lineEnd) (row .first .1)) _ r (row .then-read) in
     let to-row = yardTurn-inverse turn ts (start .first) (start .first-read) in
-    let to-end = marks-inverse items (start .first) (row .first) (row .first-read) in
+    let to-end = marks-inverse digits items (start .first) (row .first) (row .first-read) in
     let to-next = follow-inverse (form lineEnd) (row .first .1) (line .first) (tokens-have-bytes (bytes lineEnd)) (line .first-read) in
     let all-read = two-read (row .first .0) (line .first) r (line .then-read) in
     simp append-assoc (cc)
 
-pub yardLines-inverse : (agents items : ℕ) (ts : List Token) (r : List (List ℕ) × List Token) → yardLines agents items ts ≡ some r
+pub yardLines-inverse : (digits agents items : ℕ) (ts : List Token) (r : List (List ℕ) × List Token) → yardLines digits agents items ts ≡ some r
     → ts ≡ yardsTokens 1 (r .0) ++ r .1
-yardLines-inverse agents items = inTurn-inverse (yardLine items) yardTokens (yardLine-inverse items) 1 agents
+yardLines-inverse digits agents items = inTurn-inverse (yardLine digits items) yardTokens (yardLine-inverse digits items) 1 agents
 
 pub endLine-inverse : (ts : List Token) → endLine ts ≡ true → ts ≡ form lastLine
 unfolding endLine

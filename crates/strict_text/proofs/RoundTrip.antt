@@ -11,13 +11,14 @@ use lib.ListN.{length}
 use borrow.Author.Tests.{le-leb, lt-ltb}
 use Rattle.lists.specs.Lists.{all}
 use Rattle.lists.proofs.members.Each.{AllOfLength}
-use Rattle.sheet.specs.Limits.{mostAgents, mostItems, longestText, within}
+use Rattle.sheet.specs.Limits.{mostAgents, mostItems, greatestMark, markDigits, longestText, within}
 use Rattle.sheet.specs.Answers.{accepted}
 use Rattle.sheet.proofs.Limits.{within-bounds}
 use Rattle.lexing.specs.Tokens.{tokens}
 use Rattle.lexing.specs.Forms.{form}
 use Rattle.reading.specs.SheetForms.{lastLine}
 use Rattle.reading.specs.Reading.{Contents, allowedRow, tableOf, reading}
+use Rattle.reading.proofs.Accepted.{accepted-injective, accepted-text}
 use Rattle.reading.proofs.Shape.{lines-read-shape}
 use Rattle.strict_text.specs.StrictText.{headText, inUse, sheetText, strictText}
 use Rattle.strict_text.specs.WithinLimits.{WithinLimits}
@@ -28,7 +29,6 @@ use Rattle.strict_text.proofs.TokensRead.{head-headTokens, yardLines-ya
 use Rattle.strict_text.proofs.InUse.{inUse-tableOf, inUse-rows, inUse-places}
 use Rattle.strict_text.proofs.WithinLimits.{agents-bounds, items-bounds, rows-in-use, marks-in-use}
 use Rattle.strict_text.proofs.TextLength.{length-strictText}
-use Rattle.strict_text.proofs.Accepted.{accepted-injective, accepted-text}
 
 sheetText-nonempty : (agents items : ℕ) (rows : List (List ℕ)) → 0 < length (sheetText agents items rows)
 unfolding sheetText headText
@@ -62,7 +62,7 @@ module _ (c : Contents) where
     rows-accepted : rowsOf c ≡ accepted-text text c e .rows
     rows-accepted =
         let a = accepted-text text c e in
-        let shape = lines-read-shape (c .agents) (c .items) (a .after-head) (a .rows) (a .last) (a .lines-are) in
+        let shape = lines-read-shape markDigits (c .agents) (c .items) (a .after-head) (a .rows) (a .last) (a .lines-are) in
         ap (inUse (c .agents) (c .items)) (a .table-is) ∙ inUse-tableOf (c .agents) (c .items) (a .rows) (shape .0) (shape .1)
 
     pub accepted-tokens : tokens text ≡ tokens (strictText c)
@@ -70,7 +70,7 @@ module _ (c : Contents) where
     accepted-tokens =
         let a = accepted-text text c e in
         let from-head = head-inverse (tokens text) (c .agents, c .items, a .after-head) (a .head-is) in
-        let from-lines = yardLines-inverse (c .agents) (c .items) (a .after-head) (a .rows, a .last) (a .lines-are) in
+        let from-lines = yardLines-inverse markDigits (c .agents) (c .items) (a .after-head) (a .rows, a .last) (a .lines-are) in
         let from-end = endLine-inverse (a .last) (a .ends) in
         let used = rows-accepted in
         let strict = tokens-sheetText (c .agents) (c .items) (rowsOf c) in
@@ -83,7 +83,7 @@ module _ (c : Contents) where
           agents-within = a .agents-within;
           items-within = a .items-within;
           blank-beyond = a .table-is ∙ ap tableOf (sym rows-accepted);
-          marks-allowed = ap (all allowedRow) rows-accepted ∙ a .marks-allowed;
+          marks-allowed = ap (all (allowedRow greatestMark)) rows-accepted ∙ a .marks-allowed;
         }
 
     pub accepted-read-back : reading (strictText c) ≡ accepted c
@@ -98,7 +98,7 @@ strictText-same-iff s t c d e f =
 
 -- whatever stands in the places that are not in use, the strict text is read to the marks in use
 pub strictText-read-inUse : (c : Contents) → within mostAgents (c .agents) ≡ true → within mostItems (c .items) ≡ true
-    → length (c .table) ≡ mostAgents → AllOfLength mostItems (c .table) → all allowedRow (rowsOf c) ≡ true
+    → length (c .table) ≡ mostAgents → AllOfLength mostItems (c .table) → all (allowedRow greatestMark) (rowsOf c) ≡ true
     → reading (strictText c) ≡ accepted (record { agents = c .agents; items = c .items; table = tableOf (rowsOf c) })
 unfolding strictText
 strictText-read-inUse c y p n l f =
@@ -107,5 +107,5 @@ strictText-read-inUse c y p n l f =
     let used = inUse-tableOf (c .agents) (c .items) (rowsOf c) (inUse-rows (c .agents) (c .items) (c .table) (omega arith)) (inUse-places (c .agents) (c .items) (c .table) mostItems few-items l) in
     let blanked : Contents = record { agents = c .agents; items = c .items; table = tableOf (rowsOf c) } in
     let within-limits : WithinLimits blanked
-    = record { agents-within = y; items-within = p; blank-beyond = ap tableOf (sym used); marks-allowed = ap (all allowedRow) used ∙ f } in
+    = record { agents-within = y; items-within = p; blank-beyond = ap tableOf (sym used); marks-allowed = ap (all (allowedRow greatestMark)) used ∙ f } in
     ap (λ rows. reading (sheetText (c .agents) (c .items) rows)) (sym used) ∙ strictText-read blanked within-limits

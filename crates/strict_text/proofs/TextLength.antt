@@ -19,11 +19,11 @@ use Rattle.strict_text.proofs.WithinLimits.{agents-bounds, items-bounds
 mark-length : (n : ℕ) → n ≤ greatestMark → length (decimal n) ≤ markDigits
 mark-length n h = decimal-length n markDigits (omega arith) (omega arith)
 
-numbers-length : (ns : List ℕ) → allowedRow ns ≡ true → length (spacedNumbers ns) ≤ length ns * suc markDigits
+numbers-length : (ns : List ℕ) → allowedRow greatestMark ns ≡ true → length (spacedNumbers ns) ≤ length ns * suc markDigits
 unfolding spacedNumbers
 numbers-length [] f = omega arith
 numbers-length (n ∷ ns) f =
-    let both = and-eq-true-iff (allowed n) (allowedRow ns) .0 f in
+    let both = and-eq-true-iff (allowed greatestMark n) (allowedRow greatestMark ns) .0 f in
     simp length-append (omega (arith, mark-length n (leb-true n greatestMark (both .0)), numbers-length ns (both .1)))
 
 head-length : (agents items : ℕ) → agents < 10 → items < 100 → length (headText agents items) ≤ longestHead
@@ -31,16 +31,16 @@ unfolding headText
 head-length agents items few few-items =
     simp length-append (omega (arith, decimal-length agents 1 (omega arith) few, decimal-length items 2 (omega arith) few-items))
 
-yard-length : (yard : ℕ) (row : List ℕ) → yard < 10 → length row ≤ mostItems → allowedRow row ≡ true → length (yardText yard row) ≤ longestYard
+yard-length : (yard : ℕ) (row : List ℕ) → yard < 10 → length row ≤ mostItems → allowedRow greatestMark row ≡ true → length (yardText yard row) ≤ longestYard
 unfolding yardText
 yard-length yard row y p f = simp length-append (omega (arith, decimal-length yard 1 (omega arith) y, numbers-length row f))
 
-yards-length : (yard items : ℕ) (rows : List (List ℕ)) → yard + length rows ≤ 10 → items ≤ mostItems → AllOfLength items rows → all allowedRow rows ≡ true
+yards-length : (yard items : ℕ) (rows : List (List ℕ)) → yard + length rows ≤ 10 → items ≤ mostItems → AllOfLength items rows → all (allowedRow greatestMark) rows ≡ true
     → length (yardTexts yard rows) ≤ length rows * longestYard
 unfolding yardTexts
 yards-length yard items [] y p l f = omega arith
 yards-length yard items (row ∷ rows) y p l f =
-    let both = and-eq-true-iff (allowedRow row) (all allowedRow rows) .0 f in
+    let both = and-eq-true-iff (allowedRow greatestMark row) (all (allowedRow greatestMark) rows) .0 f in
     let this = yard-length yard row (omega arith) (omega (arith, l .0)) (both .0) in
     simp length-append (omega (arith, yards-length (yard + 1) items rows (omega arith) p (l .1) (both .1)))
 

@@ -39,12 +39,12 @@ pub head-headTokens : (agents items : ℕ) (ts : List Token) → agents < 10 ^ c
 unfolding head headTokens
 head-headTokens agents items ts h l = simp append-assoc (rw (numberAfter-decimal (form beforeAgents) agents _ h, numberAfter-decimal (form beforeItems) items _ l, follow-append (form lineEnd) ts))
 
-marks-decimals : (turn : ℕ) (row : List ℕ) (ts : List Token) → allowedRow row ≡ true
+marks-decimals : (turn : ℕ) (row : List ℕ) (ts : List Token) → allowedRow greatestMark row ≡ true
     → inTurn (λ piece. number markDigits) turn (length row) (map decimal row ++ ts) ≡ some (row, ts)
 unfolding inTurn
 marks-decimals turn [] ts f = refl
 marks-decimals turn (m ∷ ms) ts f =
-    let both = and-eq-true-iff (allowed m) (allowedRow ms) .0 f in
+    let both = and-eq-true-iff (allowed greatestMark m) (allowedRow greatestMark ms) .0 f in
     let small = leb-true m greatestMark (both .0) in
     rw (number-decimal markDigits m (map decimal ms ++ ts) (omega arith) (omega arith), marks-decimals (turn + 1) ms ts (both .1))
 
@@ -52,17 +52,17 @@ yardTurn-turnTokens : (turn : ℕ) (ts : List Token) → turn < 10 ^ countDigits
 unfolding yardTurn turnTokens
 yardTurn-turnTokens turn ts h = simp append-assoc (rw (numberAfter-decimal (form beforeTurn) turn _ h, eq-eqb turn turn refl, follow-append (form beforeMarks) ts))
 
-yardLine-yardTokens : (turn : ℕ) (row : List ℕ) (ts : List Token) → turn < 10 ^ countDigits → allowedRow row ≡ true
-    → yardLine (length row) turn (yardTokens turn row ++ ts) ≡ some (row, ts)
+yardLine-yardTokens : (turn : ℕ) (row : List ℕ) (ts : List Token) → turn < 10 ^ countDigits → allowedRow greatestMark row ≡ true
+    → yardLine markDigits (length row) turn (yardTokens turn row ++ ts) ≡ some (row, ts)
 unfolding yardLine yardTokens
 yardLine-yardTokens turn row ts h f = simp append-assoc (rw (yardTurn-turnTokens turn _ h, marks-decimals 1 row _ f, follow-append (form lineEnd) ts))
 
 pub yardLines-yardsTokens : (turn items : ℕ) (rows : List (List ℕ)) (ts : List Token) → turn + length rows ≤ 10 ^ countDigits → AllOfLength items rows
-    → all allowedRow rows ≡ true → inTurn (yardLine items) turn (length rows) (yardsTokens turn rows ++ ts) ≡ some (rows, ts)
+    → all (allowedRow greatestMark) rows ≡ true → inTurn (yardLine markDigits items) turn (length rows) (yardsTokens turn rows ++ ts) ≡ some (rows, ts)
 unfolding inTurn tokensInTurn
 yardLines-yardsTokens turn items [] ts h l f = refl
 yardLines-yardsTokens turn items (row ∷ rows) ts h l f =
-    let both = and-eq-true-iff (allowedRow row) (all allowedRow rows) .0 f in
+    let both = and-eq-true-iff (allowedRow greatestMark row) (all (allowedRow greatestMark) rows) .0 f in
     let this = rw (l .0) at (yardLine-yardTokens turn row (yardsTokens (turn + 1) rows ++ ts) (omega arith) (both .0)) in
     simp append-assoc (rw (this, yardLines-yardsTokens (turn + 1) items rows ts (omega arith) (l .1) (both .1)))
 

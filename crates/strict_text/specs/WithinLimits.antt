@@ -2,7 +2,7 @@
 use mathlib.Core.Path.{_≡_}
 use mathlib.Core.Bool.{true}
 use Rattle.lists.specs.Lists.{all}
-use Rattle.sheet.specs.Limits.{mostAgents, mostItems, within}
+use Rattle.sheet.specs.Limits.{mostAgents, mostItems, greatestMark, within}
 use Rattle.reading.specs.Reading.{Contents, allowedRow, tableOf}
 use Rattle.strict_text.specs.StrictText.{inUse}
 
@@ -12,5 +12,5 @@ pub record WithinLimits (c : Contents) : Type 0 where
   pub items-within : within mostItems (c .items) ≡ true
   -- "six rows of twelve places", blank beyond the yards and pieces in use
   pub blank-beyond : c .table ≡ tableOf (inUse (c .agents) (c .items) (c .table))
-  -- "A mark is a whole number from 0 to 65,535"
-  pub marks-allowed : all allowedRow (inUse (c .agents) (c .items) (c .table)) ≡ true
+  -- "A mark is a whole number from 0 to" the greatest
+  pub marks-allowed : all (allowedRow greatestMark) (inUse (c .agents) (c .items) (c .table)) ≡ true

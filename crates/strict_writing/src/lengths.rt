@@ -11,6 +11,7 @@ use reading::forms::BEFORE_MARKS;
 use reading::forms::BEFORE_TURN;
 use reading::forms::LAST_LINE;
 use reading::forms::LINE_END;
+use sheet::Mark;
 use sheet::Row;
 use sheet::Sheet;
 use sheet::Table;
@@ -36,7 +37,7 @@ fn head_length(agents: usize, items: usize) -> usize
 }
 
 // One mark.
-fn mark_length(mark: u16) -> usize
+fn mark_length(mark: Mark) -> usize
     ensures { λ r. ⌜ (r ≡ length (spacedNumber mark)) × (r ≤ numberBound) ⌝ }
 {
     spaced_length(mark as u64)

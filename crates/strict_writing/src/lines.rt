@@ -9,6 +9,7 @@ use reading::forms::BEFORE_MARKS;
 use reading::forms::BEFORE_TURN;
 use reading::forms::LAST_LINE;
 use reading::forms::LINE_END;
+use sheet::Mark;
 use sheet::Row;
 use sheet::Sheet;
 use sheet::Table;
@@ -28,7 +29,7 @@ fn put_head(buffer: &mut [u8], at: usize, agents: usize, items: usize) -> usize
 }
 
 // One mark.
-fn put_mark(buffer: &mut [u8], at: usize, mark: u16) -> usize
+fn put_mark(buffer: &mut [u8], at: usize, mark: Mark) -> usize
     ensures { λ r. ⌜ Written (output (now (buffer .entry)) at) (spacedNumber mark) (output (now (buffer .exit)) r) ⌝ }
 {
     write_number(buffer, at, mark as u64)

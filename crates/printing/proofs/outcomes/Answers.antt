@@ -2,12 +2,12 @@
 use mathlib.Core.Path.{_≡_, sym, ap, _∙_}
 use mathlib.Core.Logic.{⊎-elim}
 use mathlib.Core.List.{List, []}
-use Prim.Native.Nat.{ℕ, _-_, _^_, _≤_, _<_}
+use Prim.Native.Nat.{ℕ, _-_, _≤_, _<_}
 use native.Mathlib.Omega.{arith}
 use lib.ListN.{getD, length}
 use Rattle.sheet.specs.Answers.{Answer, refused, accepted, andThen}
 use Rattle.writing.specs.Filled.{filling}
-use Rattle.sheet.specs.Limits.{CountsWithin}
+use Rattle.sheet.specs.Limits.{valueBound, CountsWithin}
 use Rattle.rounds.specs.Division.{Division, divisionByRounds, answer}
 use Rattle.rounds.proofs.Answers.{answer-cases}
 use Rattle.division.specs.Outcome.{outcome}
@@ -52,5 +52,5 @@ module _ (n m : ℕ) (table : List (List ℕ)) where
     division-printed room = ap (filling room) text-printed ∙ sym (ap (λ o. andThen o (λ d. filling room (printed n m table d))) (a .by-rounds))
 
     -- and no longer than the longest
-    pub text-short : ((i k : ℕ) → getD (getD table i []) k 0 < 2 ^ 16) → length (outcomeText n m table g (outcome (answer n m table))) ≤ longestPrinted
+    pub text-short : ((i k : ℕ) → getD (getD table i []) k 0 < valueBound) → length (outcomeText n m table g (outcome (answer n m table))) ≤ longestPrinted
     text-short small = rw text-printed (divisionByRounds-length n m table (a .limits .some) (a .limits .few) (a .limits .few-items) (λ i k. omega (arith, small (i - 1) (k - 1))))

@@ -12,7 +12,7 @@ use Rattle.lists.specs.Lists.{range}
 use Rattle.lists.proofs.ranges.Ranges.{length-range}
 use Rattle.lists.proofs.members.Counting.{length-sublist}
 use Rattle.lists.proofs.sums.Totals.{sumOver-le}
-use Rattle.sheet.specs.Limits.{mostAgents, mostItems, greatestMark, CountsWithin}
+use Rattle.sheet.specs.Limits.{mostAgents, mostItems, greatestMark, sumDigits, CountsWithin}
 use Rattle.sheet.specs.Answers.{accepted}
 use Rattle.sheet.specs.Valuations.{itemValue, value}
 use Rattle.sheet.specs.Tables.{valuation, allValues}
@@ -31,7 +31,7 @@ value-small : (row : List ℕ) (m : ℕ) {items : List ℕ} → m ≤ mostItems 
 value-small row m {items} few small s =
     omega (arith, sumOver-le (itemValue row) 1 greatestMark items (λ k mk. omega (arith, small k)), length-sublist s, length-range 1 m)
 
--- "six rows of twelve places", each mark "from 0 to 65,535": the division of every such table
+-- "six rows of twelve places", each mark at most the greatest: the division of every such table
 pub divisionByRounds-length : (n m : ℕ) (table : List (List ℕ)) → 1 ≤ n → n ≤ mostAgents → m ≤ mostItems → ((i k : ℕ) → itemValue (valuation table i) k ≤ greatestMark)
     → length (printed n m table (divisionByRounds n m table)) ≤ longestPrinted
 unfolding divisionOf
@@ -42,7 +42,7 @@ divisionByRounds-length n m table some few few-items small =
     (λ i in-use. omega (arith, value-small (valuation table i) m few-items (small i) (p .of-items i in-use)))
     (λ i in-use. rw (nth-shares n m table in-use) (share-small i))
   where
-    share-small : (i : ℕ) → shareOf n m table i < 10 ^ 20
+    share-small : (i : ℕ) → shareOf n m table i < 10 ^ sumDigits
     share-small i =
         let row = valuation table i in
         omega (

@@ -5,7 +5,7 @@ use mathlib.Core.Option.{Option, none, some}
 use mathlib.Core.Bool.{Bool, true, _&&_}
 use Prim.Native.Nat.{ℕ, _+_, _-_, _<_}
 use lib.ListN.{set}
-use Rattle.sheet.specs.Limits.{blankRow}
+use Rattle.sheet.specs.Limits.{greatestMark, markDigits, blankRow}
 use Rattle.lexing.specs.Tokens.{Token}
 use Rattle.lexing.specs.Forms.{_>>=_, form, follow, inTurn}
 use Rattle.reading.specs.SheetForms.{lineEnd}
@@ -22,24 +22,24 @@ unfolding keptAfter
 kept-then none f = refl
 kept-then (some r) f = go (f (r .1))
   where
-    go : (o : Option (List Token)) → keptMarks (o >>= (λ ts. some (r .0, ts))) ≡ (o >>= (λ ts. some (rowOf (r .0), allowedRow (r .0), ts)))
+    go : (o : Option (List Token)) → keptMarks (o >>= (λ ts. some (r .0, ts))) ≡ (o >>= (λ ts. some (rowOf (r .0), allowedRow greatestMark (r .0), ts)))
     go none = refl
     go (some ts) = refl
 
 pub yard-line-kept : (items turn : ℕ) (ts₀ ts₁ : List Token) → yardTurn turn ts₀ ≡ some ts₁
-    → keptMarks (yardLine items turn ts₀) ≡ (keptMarks (marks items ts₁) >>= (λ q. follow (form lineEnd) (q .2) >>= (λ ts. some (q .0, q .1, ts))))
+    → keptMarks (yardLine markDigits items turn ts₀) ≡ (keptMarks (marks markDigits items ts₁) >>= (λ q. follow (form lineEnd) (q .2) >>= (λ ts. some (q .0, q .1, ts))))
 unfolding yardLine
-yard-line-kept items turn ts₀ ts₁ e = rw e (kept-then (marks items ts₁) (follow (form lineEnd)))
+yard-line-kept items turn ts₀ ts₁ e = rw e (kept-then (marks markDigits items ts₁) (follow (form lineEnd)))
 
 -- of the yard lines the one after k is missed, or it is read
 module _ (rows : List Valuation) (passed : Bool) (k agents items : ℕ) (ts : List Token) (more : k < agents) where
-  pub line-missed : keptMarks (yardLine items (k + 1) ts) ≡ none → keptLinesAfter k rows passed (inTurn (yardLine items) (k + 1) (agents - k) ts) ≡ none
-  line-missed e = kept-missed _ _ k rows passed (yardLine items) (k + 1) k agents ts more (kept-none reduced allowed 0 blankRow true _ e)
+  pub line-missed : keptMarks (yardLine markDigits items (k + 1) ts) ≡ none → keptLinesAfter k rows passed (inTurn (yardLine markDigits items) (k + 1) (agents - k) ts) ≡ none
+  line-missed e = kept-missed _ _ k rows passed (yardLine markDigits items) (k + 1) k agents ts more (kept-none reduced (allowed greatestMark) 0 blankRow true _ e)
 
-  pub line-read : (row : List ℕ) (f : Bool) (ts′ : List Token) → keptMarks (yardLine items (k + 1) ts) ≡ some (row, f, ts′)
-      → keptLinesAfter k rows passed (inTurn (yardLine items) (k + 1) (agents - k) ts)
-      ≡ keptLinesAfter (k + 1) (set rows k (valuation row)) (passed && f) (inTurn (yardLine items) (k + 1 + 1) (agents - (k + 1)) ts′)
+  pub line-read : (row : List ℕ) (f : Bool) (ts′ : List Token) → keptMarks (yardLine markDigits items (k + 1) ts) ≡ some (row, f, ts′)
+      → keptLinesAfter k rows passed (inTurn (yardLine markDigits items) (k + 1) (agents - k) ts)
+      ≡ keptLinesAfter (k + 1) (set rows k (valuation row)) (passed && f) (inTurn (yardLine markDigits items) (k + 1 + 1) (agents - (k + 1)) ts′)
   line-read row f ts′ e =
-      let q = kept-from reduced allowed 0 blankRow true _ (row, f, ts′) e in
-      kept-read _ _ k rows passed (yardLine items) (k + 1) k agents ts (q .entries) ts′ more (q .read)
-      ∙ ap₂ (λ r b. keptLinesAfter (k + 1) (set rows k (valuation r)) (passed && b) (inTurn (yardLine items) (k + 1 + 1) (agents - (k + 1)) ts′)) (sym (q .filled)) (sym (q .tested))
+      let q = kept-from reduced (allowed greatestMark) 0 blankRow true _ (row, f, ts′) e in
+      kept-read _ _ k rows passed (yardLine markDigits items) (k + 1) k agents ts (q .entries) ts′ more (q .read)
+      ∙ ap₂ (λ r b. keptLinesAfter (k + 1) (set rows k (valuation r)) (passed && b) (inTurn (yardLine markDigits items) (k + 1 + 1) (agents - (k + 1)) ts′)) (sym (q .filled)) (sym (q .tested))

@@ -10,7 +10,7 @@ use lib.Dec.{leb, ltb}
 use lib.ListN.{length}
 use borrow.Author.Needs.{needs}
 use borrow.Author.Tests.{lt-leb, le-leb, lt-ltb, not-true, not-false}
-use Rattle.sheet.specs.Limits.{longestText, mostAgents, mostItems, within}
+use Rattle.sheet.specs.Limits.{longestText, mostAgents, mostItems, greatestMark, markDigits, within}
 use Rattle.sheet.proofs.Limits.{within-bounds}
 use Rattle.lexing.specs.Tokens.{tokens}
 use Rattle.lexing.specs.Places.{tokensAt}
@@ -77,8 +77,8 @@ before-lines c =
 lines-kept : (c : tie.Else5) → let h = counts-read (agents-passed (items-passed c)) in
     let text = textOf (byte-passed h) in
     let lines = c .before .before .yard-lines .result in
-    KeptFrom (λ ms. valuation (rowOf ms)) allowedRow 0 blankRows true
-    (yardLines (h .agents .given .0 .0) (h .agents .given .0 .1 .0) (tokensAt text (h .agents .given .0 .1 .1 .0)))
+    KeptFrom (λ ms. valuation (rowOf ms)) (allowedRow greatestMark) 0 blankRows true
+    (yardLines markDigits (h .agents .given .0 .0) (h .agents .given .0 .1 .0) (tokensAt text (h .agents .given .0 .1 .1 .0)))
     (lines .rows, lines .allowed, tokensAt text (lines .next))
 lines-kept c =
     let lines = c .before .before in

@@ -24,7 +24,7 @@ reduced m = m % (greatestMark + 1)
 
 -- what is kept of marks that are read into a row from place k on, and of all marks of a line
 abbrev pub keptMarksAfter : ℕ → List ℕ → Bool → Option (List ℕ × List Token) → Option (List ℕ × Bool × List Token)
-keptMarksAfter k row passed o = keptAfter reduced allowed k row passed o
+keptMarksAfter k row passed o = keptAfter reduced (allowed greatestMark) k row passed o
 
 abbrev pub keptMarks : Option (List ℕ × List Token) → Option (List ℕ × Bool × List Token)
 keptMarks o = keptMarksAfter 0 blankRow true o
@@ -35,7 +35,7 @@ rowOf ms = sets blankRow 0 (map reduced ms)
 
 -- what is kept of yard lines that are read into rows from row k on, and of all yard lines
 abbrev pub keptLinesAfter : ℕ → List Valuation → Bool → Option (List (List ℕ) × List Token) → Option (List Valuation × Bool × List Token)
-keptLinesAfter k rows passed o = keptAfter (λ ms. valuation (rowOf ms)) allowedRow k rows passed o
+keptLinesAfter k rows passed o = keptAfter (λ ms. valuation (rowOf ms)) (allowedRow greatestMark) k rows passed o
 
 abbrev pub blankRows : List Valuation
 blankRows = map valuation blankTable

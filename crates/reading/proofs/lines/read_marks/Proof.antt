@@ -18,7 +18,7 @@ use Rattle.reading.proofs.lines.read_marks.Tie as tie
 abbrev Inv-loop : tie.InvT-loop
 Inv-loop s items row₀ allowed₀ here₀ k₀ row allowed here k =
     (k ≤ items) × (length row ≡ mostItems)
-    × (keptMarksAfter 0 row₀ allowed₀ (marks items (tokensAt s here₀))
+    × (keptMarksAfter 0 row₀ allowed₀ (marks markDigits items (tokensAt s here₀))
     ≡ keptMarksAfter k row allowed (inTurn (λ piece. number markDigits) (k + 1) (items - k) (tokensAt s here)))
 
 abbrev μ-loop : tie.MeasureT-loop

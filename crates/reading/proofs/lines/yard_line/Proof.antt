@@ -4,6 +4,7 @@ use mathlib.Core.Option.{some}
 use mathlib.Core.Bool.{true}
 use denote.Ref.{now}
 use borrow.Author.Tests.{not-true, not-false}
+use Rattle.sheet.specs.Limits.{markDigits}
 use Rattle.lexing.specs.Places.{tokensAt}
 use Rattle.lexing.specs.Results.{Follows}
 use Rattle.lexing.specs.declared.forms.Followed.the-variants.{At}
@@ -27,7 +28,7 @@ row-read c = not-false (c .before .before .read-marks .result .read) (c .if1 .le
 
 marks-read : (c : tie.Else1) → let a = turn-point c .before .before .before .before .args in
     let line = c .before .before .read-marks .result in
-    keptMarks (marks (a .items) (tokensAt (now (a .s)) (turn-point c .c1 .given .0 .0))) ≡ some (line .row, line .allowed, tokensAt (now (a .s)) (line .next))
+    keptMarks (marks markDigits (a .items) (tokensAt (now (a .s)) (turn-point c .c1 .given .0 .0))) ≡ some (line .row, line .allowed, tokensAt (now (a .s)) (line .next))
 marks-read c = rw (row-read c) at (c .before .before .read-marks .ensures)
 
 yard-in-turn-requires : tie.Need-yard-in-turn-requires

@@ -5,7 +5,7 @@ use native.Mathlib.Nat.{sub-zero}
 use native.Mathlib.Omega.{arith}
 use borrow.Author.Tests.{not-true, not-false}
 use lib.ListN.{length, length-set}
-use Rattle.sheet.specs.Limits.{mostAgents}
+use Rattle.sheet.specs.Limits.{mostAgents, markDigits}
 use Rattle.lexing.specs.Forms.{inTurn}
 use Rattle.lexing.specs.Places.{tokensAt}
 use Rattle.reading.specs.Grammar.{yardLine, yardLines}
@@ -18,8 +18,8 @@ use Rattle.reading.proofs.lines.yard_lines.Tie as tie
 abbrev Inv-loop : tie.InvT-loop
 Inv-loop s agents items rows₀ allowed₀ here₀ k₀ rows allowed here k =
     (k ≤ agents) × (length rows ≡ mostAgents)
-    × (keptLines (yardLines agents items (tokensAt s here₀))
-    ≡ keptLinesAfter k rows allowed (inTurn (yardLine items) (k + 1) (agents - k) (tokensAt s here)))
+    × (keptLines (yardLines markDigits agents items (tokensAt s here₀))
+    ≡ keptLinesAfter k rows allowed (inTurn (yardLine markDigits items) (k + 1) (agents - k) (tokensAt s here)))
 
 abbrev μ-loop : tie.MeasureT-loop
 μ-loop s agents items rows₀ allowed₀ here₀ k₀ rows allowed here k = agents - k

@@ -4,8 +4,8 @@ use native.Mathlib.Omega.{arith}
 use lib.ListN.{List·getD-eq-default}
 use borrow.Author.Needs.{needs}
 use borrow.Kind.Array.{good-length, eInt}
-use mir.Syntax.{w16}
 use Rattle.sheet.specs.Limits.{mostItems}
+use Rattle.sheet.proofs.Limits.{markWidth}
 use Rattle.sheet.proofs.valuing.item_value.Statement.{statement}
 use Rattle.sheet.proofs.valuing.item_value.Tie as tie
 
@@ -27,7 +27,7 @@ returns c = search needs
 returns-2 : tie.Need-returns-2
 returns-2 c =
     let s = c .before in
-    let places = good-length (eInt w16) mostItems (s .args .t1) _ (s .good .0) in
+    let places = good-length (eInt markWidth) mostItems (s .args .t1) _ (s .good .0) in
     (sym (List·getD-eq-default (s .args .t1) 0 (omega arith)), omega arith)
 
 pub item-value-spec : {M : Type 1} → statement M

@@ -3,10 +3,10 @@ use mathlib.Core.Path.{_≡_, refl, _∙_}
 use Prim.Native.Nat.{_*_, _-_, _≤_}
 use native.Mathlib.Omega.{arith}
 use lib.ListN.{length, take, length-append}
-use mir.Syntax.{w16}
 use borrow.Kind.Array.{eInt, good-length}
 use Rattle.text.specs.Decimal.{spacedNumbers}
 use Rattle.sheet.specs.Limits.{mostItems}
+use Rattle.sheet.proofs.Limits.{markWidth}
 use Rattle.strict_writing.specs.internal.Bounds.{numberBound}
 use Rattle.lists.proofs.places.Passing.{take-min}
 use Rattle.writing.proofs.Spaced.{spacedNumbers-next}
@@ -22,7 +22,7 @@ abbrev μ-loop : tie.MeasureT-loop
 
 -- a row has twelve places
 places : (s : tie.Start Inv-loop μ-loop) → length (s .args .t1) ≡ mostItems
-places s = good-length (eInt w16) mostItems (s .args .t1) _ (s .good .0)
+places s = good-length (eInt markWidth) mostItems (s .args .t1) _ (s .good .0)
 
 lesser-requires : tie.Need-lesser-requires Inv-loop μ-loop
 lesser-requires c κs = tt

@@ -3,10 +3,10 @@ use mathlib.Core.Path.{_≡_, refl, _∙_}
 use Prim.Native.Nat.{_-_, _≤_}
 use native.Mathlib.Omega.{arith}
 use lib.ListN.{length, take}
-use mir.Syntax.{w16}
 use borrow.Kind.Array.{eInt, good-length}
 use Rattle.text.specs.Decimal.{spacedNumbers}
 use Rattle.sheet.specs.Limits.{mostItems}
+use Rattle.sheet.proofs.Limits.{markWidth}
 use Rattle.writing.specs.Output.{output, Written}
 use Rattle.writing.proofs.Written.{nothing, _then_}
 use Rattle.lists.proofs.places.Passing.{take-min}
@@ -23,7 +23,7 @@ abbrev μ-loop : tie.MeasureT-loop
 
 -- a row has twelve places
 places : (s : tie.Start Inv-loop μ-loop) → length (s .args .t3) ≡ mostItems
-places s = good-length (eInt w16) mostItems (s .args .t3) _ (s .good .1 .1 .0)
+places s = good-length (eInt markWidth) mostItems (s .args .t3) _ (s .good .1 .1 .0)
 
 lesser-requires : tie.Need-lesser-requires Inv-loop μ-loop
 lesser-requires c κs = tt
