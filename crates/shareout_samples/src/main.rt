@@ -1,4 +1,4 @@
-// Divides the sample sheets of document 01 and two that are even: for each, its name and what the program prints.
+// Divides the sample sheets of document 01, two that are even and the three players of document 000: for each, its name and what the program prints.
 use libc::STDOUT_FILENO;
 use sheet::Sheet;
 use writing::Answer;
@@ -9,6 +9,7 @@ const TOO_LONG: usize = Sheet::LONGEST_TEXT + 1;
 fn main() {
     starred();
     even();
+    three_players();
     counts();
     marks();
     let long = [b'\n'; TOO_LONG];
@@ -67,6 +68,14 @@ fn even() {
     );
 }
 
+// The three players of document 000, section 2.
+fn three_players() {
+    show(
+        b"three players\n",
+        b"(sheet (yards 3) (pieces 12))\n(yard 1 (marks 1017003 1024999 1011999 1000999 1002000 1022000 1003000 1028000 1011000 1000000 1021000 1023000))\n(yard 2 (marks 1017003 1024999 1012000 1001000 1001999 1022000 1003000 1028000 1010999 1000000 1021000 1023000))\n(yard 3 (marks 1017003 1025000 1011999 1001000 1002000 1022000 1002999 1028000 1011000 1000000 1021000 1022999))\n(end)\n",
+    );
+}
+
 // Sheet j: counts at the limits and beyond.
 fn counts() {
     show(
@@ -96,19 +105,19 @@ fn counts() {
 fn marks() {
     show(
         b"j\n",
-        b"(sheet (yards 2) (pieces 3))\n(yard 1 (marks 65535 1 1))\n(yard 2 (marks 1 1 1))\n(end)\n",
+        b"(sheet (yards 2) (pieces 3))\n(yard 1 (marks 4294967295 1 1))\n(yard 2 (marks 1 1 1))\n(end)\n",
     );
     show(
         b"j\n",
-        b"(sheet (yards 2) (pieces 3))\n(yard 1 (marks 65536 1 1))\n(yard 2 (marks 1 1 1))\n(end)\n",
+        b"(sheet (yards 2) (pieces 3))\n(yard 1 (marks 4294967296 1 1))\n(yard 2 (marks 1 1 1))\n(end)\n",
     );
     show(
         b"j\n",
-        b"(sheet (yards 2) (pieces 3))\n(yard 1 (marks 99999 1 1))\n(yard 2 (marks 1 1 1))\n(end)\n",
+        b"(sheet (yards 2) (pieces 3))\n(yard 1 (marks 9999999999 1 1))\n(yard 2 (marks 1 1 1))\n(end)\n",
     );
     show(
         b"j\n",
-        b"(sheet (yards 2) (pieces 3))\n(yard 1 (marks 100000 1 1))\n(yard 2 (marks 1 1 1))\n(end)\n",
+        b"(sheet (yards 2) (pieces 3))\n(yard 1 (marks 10000000000 1 1))\n(yard 2 (marks 1 1 1))\n(end)\n",
     );
     show(
         b"j\n",
@@ -116,7 +125,7 @@ fn marks() {
     );
     show(
         b"j\n",
-        b"(sheet (yards 7) (pieces 3))\n(yard 1 (marks 70000 1 1))\n(yard 2 (marks 1 1 1))\n(yard 3 (marks 1 1 1))\n(yard 4 (marks 1 1 1))\n(yard 5 (marks 1 1 1))\n(yard 6 (marks 1 1 1))\n(yard 7 (marks 1 1 1))\n(end)\n",
+        b"(sheet (yards 7) (pieces 3))\n(yard 1 (marks 5000000000 1 1))\n(yard 2 (marks 1 1 1))\n(yard 3 (marks 1 1 1))\n(yard 4 (marks 1 1 1))\n(yard 5 (marks 1 1 1))\n(yard 6 (marks 1 1 1))\n(yard 7 (marks 1 1 1))\n(end)\n",
     );
 }
 

@@ -1,3 +1,6 @@
--- Sheet a, and the theorem that every accepted text is printed.
+-- Sheet a, the shares of the sheet of three players, the theorem that every accepted text is printed, and that a text accepted before order 3
+-- of document 02 is answered as it was.
 pub mod Accepted
+pub mod Before
 pub mod Samples
+pub mod ThreePlayers

@@ -1,4 +1,6 @@
--- Sheet a as typed, every accepted text is written, and the theorems on what is written.
+-- Sheet a as typed, every accepted text is written, the theorems on what is written, and that a text accepted before order 3 of document 02
+-- is written as it was.
 pub mod Accepted
+pub mod Before
 pub mod Samples
 pub mod Theorems

@@ -1,0 +1,55 @@
+-- The three players of document 000, section 2, read row by row as pieces 1 to 12 of a sheet of three yards (samples/three_players.sheet).
+-- What its text carries, by computation; and each share is 4,055,000, since three times it is the row's total and a partition into three
+-- bundles of 4,055,000 is shown. Assumes nothing.
+use mathlib.Core.Path.{_≡_, refl, ap₂}
+use mathlib.Core.Bool.{true}
+use mathlib.Core.List.{List, [], _∷_, map, flatMap}
+use Prim.Native.Nat.{ℕ, _*_}
+use native.Mathlib.Omega.{arith}
+use lib.ListN.{length}
+use Rattle.lists.specs.Lists.{range, all}
+use Rattle.lists.specs.Sums.{total}
+use Rattle.text.specs.Bytes.{bytes}
+use Rattle.sheet.specs.Limits.{within}
+use Rattle.sheet.specs.Answers.{accepted}
+use Rattle.sheet.specs.Tables.{valuation, allValues}
+use Rattle.sheet.proofs.Limits.{each-within}
+use Rattle.lexing.specs.Lines.{onFirst, lines, beforeRemark}
+use Rattle.lexing.specs.Tokens.{extended, words, lineTokens, tokens}
+use Rattle.lexing.specs.Forms as forms
+use Rattle.lexing.specs.Numbers as numbers
+use Rattle.reading.specs.Grammar as grammar
+use Rattle.reading.specs.Reading.{reading, tableOf}
+use Rattle.cut.specs.Share.{leastBundle}
+use Rattle.cut.proofs.Laws.{maximinShare-of-total}
+use Rattle.shares.specs.Shares.{shareOf}
+
+abbrev pub players : List (List ℕ)
+players =
+    (1017003 ∷ 1024999 ∷ 1011999 ∷ 1000999 ∷ 1002000 ∷ 1022000 ∷ 1003000 ∷ 1028000 ∷ 1011000 ∷ 1000000 ∷ 1021000 ∷ 1023000 ∷ [])
+    ∷ (1017003 ∷ 1024999 ∷ 1012000 ∷ 1001000 ∷ 1001999 ∷ 1022000 ∷ 1003000 ∷ 1028000 ∷ 1010999 ∷ 1000000 ∷ 1021000 ∷ 1023000 ∷ [])
+    ∷ (1017003 ∷ 1025000 ∷ 1011999 ∷ 1001000 ∷ 1002000 ∷ 1022000 ∷ 1002999 ∷ 1028000 ∷ 1011000 ∷ 1000000 ∷ 1021000 ∷ 1022999 ∷ [])
+    ∷ []
+
+pub three-players-read : reading (bytes "(sheet (yards 3) (pieces 12))\n(yard 1 (marks 1017003 1024999 1011999 1000999 1002000 1022000 1003000 1028000 1011000 1000000 1021000 1023000))\n(yard 2 (marks 1017003 1024999 1012000 1001000 1001999 1022000 1003000 1028000 1010999 1000000 1021000 1023000))\n(yard 3 (marks 1017003 1025000 1011999 1001000 1002000 1022000 1002999 1028000 1011000 1000000 1021000 1022999))\n(end)\n")
+    ≡ accepted (record { agents = 3; items = 12; table = tableOf players })
+unfolding reading grammar.endLine grammar.yardLine grammar.yardTurn grammar.head numbers.numberAfter numbers.number numbers.digitsAfter numbers.isNumber forms.inTurn forms.follow onFirst lines beforeRemark extended words lineTokens tokens flatMap
+three-players-read = refl
+
+-- the share of one player, from a partition
+module _ (i : ℕ) (partition : List ℕ) where
+  values : List ℕ
+  values = allValues 12 (valuation (tableOf players) i)
+
+  share-shown : all (within 3) partition ≡ true → length partition ≡ 12 → leastBundle 3 values partition ≡ 4055000 → 3 * 4055000 ≡ total values
+      → shareOf 3 12 (tableOf players) i ≡ 4055000
+  unfolding values
+  share-shown in-bundles each reached whole = maximinShare-of-total 3 values (omega arith) 4055000 partition (each-within 3 partition in-bundles) each reached whole
+
+-- the partitions are the rows, and the labels α β γ and + - * of the document
+pub three-players-shares : map (shareOf 3 12 (tableOf players)) (range 1 3) ≡ 4055000 ∷ 4055000 ∷ 4055000 ∷ []
+unfolding values
+three-players-shares =
+    ap₂ _∷_ (share-shown 1 (1 ∷ 1 ∷ 1 ∷ 1 ∷ 2 ∷ 2 ∷ 2 ∷ 2 ∷ 3 ∷ 3 ∷ 3 ∷ 3 ∷ []) refl refl refl refl)
+    (ap₂ _∷_ (share-shown 2 (1 ∷ 1 ∷ 2 ∷ 3 ∷ 1 ∷ 2 ∷ 3 ∷ 3 ∷ 1 ∷ 2 ∷ 2 ∷ 3 ∷ []) refl refl refl refl)
+    (ap₂ _∷_ (share-shown 3 (1 ∷ 2 ∷ 1 ∷ 3 ∷ 2 ∷ 3 ∷ 1 ∷ 2 ∷ 3 ∷ 2 ∷ 3 ∷ 1 ∷ []) refl refl refl refl) refl))
