@@ -4,12 +4,13 @@
 use crate::families::FAMILIES;
 use crate::generator::Generator;
 use crate::kinds::Kinds;
-use crate::limits::{counts_to_try, MOST_PIECES, MOST_YARDS};
+use crate::limits::{counts_to_try, handed_over, Mark, MOST_PIECES, MOST_YARDS};
 use crate::sets::{members, set_of};
 use crate::share::cut;
 use crate::tables::of_family;
+use crate::widths::{count_row, count_sum, rows_met, sums_met, WIDE_SHARE};
 
-pub type Row = [u16; MOST_PIECES];
+pub type Row = [Mark; MOST_PIECES];
 pub type Partition = [u8; MOST_PIECES];
 
 /// Marks, set, number of piles, the lent share and partition; answers 0 or the refusal's number.
@@ -21,7 +22,7 @@ type Answer = (u8, u64, Partition);
 /// What the lent places hold before.
 const LENT: Answer = (0, 77_777_777_777, [77; MOST_PIECES]);
 /// The mark of the places that are not in the set.
-const OUTSIDE: u16 = 54_321;
+const OUTSIDE: Mark = 3_987_654_321;
 const ALL: usize = (1 << MOST_PIECES) - 1;
 /// Random tables of each family for every count of yards and pieces; each row of them is cut.
 const OF_EACH_COUNT: usize = 4;
@@ -49,10 +50,16 @@ pub fn run(entry: Entry) -> Result<(), String> {
         println!("{name}: {}", harness.calls - before);
     }
     harness.kinds.print();
-    harness.kinds.all_met("piles", 1..=MOST_YARDS)?;
-    harness.kinds.all_met("pieces, no gap among them", 0..=MOST_PIECES)?;
-    harness.kinds.all_met("pieces, with gaps", 2..MOST_PIECES)?;
-    harness.kinds.all_met("refusal", [4, 5])
+    all_met(&harness.kinds)
+}
+
+fn all_met(kinds: &Kinds) -> Result<(), String> {
+    kinds.all_met("piles", 1..=MOST_YARDS)?;
+    kinds.all_met("pieces, no gap among them", 0..=MOST_PIECES)?;
+    kinds.all_met("pieces, with gaps", 2..MOST_PIECES)?;
+    kinds.all_met("refusal", [4, 5])?;
+    rows_met(kinds)?;
+    sums_met(kinds, WIDE_SHARE)
 }
 
 /// Refusal 4 before 5: every set with a piece above 12, and some others for the piles refused.
@@ -73,7 +80,7 @@ fn refused(harness: &mut Harness) -> Result<(), String> {
 /// of them in every number of piles.
 fn all_small(harness: &mut Harness) -> Result<(), String> {
     for places in [[0, 1, 2, 3], [1, 4, 6, 11]] {
-        for number in 0..256u16 {
+        for number in 0..256 {
             let mut row = [OUTSIDE; MOST_PIECES];
             (0..4).for_each(|k| row[places[k]] = number >> (2 * k) & 3);
             for chosen in 0..16 {
@@ -115,7 +122,7 @@ fn random(harness: &mut Harness) -> Result<(), String> {
 /// The marks on the places of the set.
 fn laid_on(set: usize, marks: &[u64]) -> Row {
     let mut row = [OUTSIDE; MOST_PIECES];
-    members(set).zip(marks).for_each(|(place, mark)| row[place] = *mark as u16);
+    members(set).zip(marks).for_each(|(place, mark)| row[place] = handed_over(*mark));
     row
 }
 
@@ -124,7 +131,7 @@ impl Harness<'_> {
         let due = due(row, set, piles);
         let (_, mut share, mut partition) = LENT;
         let number = (self.entry)(row, set, piles, &mut share, &mut partition);
-        self.count(set, piles, due.0);
+        self.count(row, set, piles, &due);
         match (number, share, partition) {
             answer if answer == due => Ok(()),
             answer => {
@@ -133,73 +140,44 @@ impl Harness<'_> {
         }
     }
 
-    fn count(&mut self, set: u16, piles: usize, refusal: u8) {
+    fn count(&mut self, row: &Row, set: u16, piles: usize, due: &Answer) {
         self.calls += 1;
-        if refusal > 0 {
-            return self.kinds.count("refusal", usize::from(refusal));
+        if due.0 > 0 {
+            return self.kinds.count("refusal", usize::from(due.0));
         }
         let pieces = set.count_ones();
         let without_gap = set >> set.trailing_zeros().min(15) == (1 << pieces) - 1;
         let kind = if without_gap { "pieces, no gap among them" } else { "pieces, with gaps" };
         self.kinds.count(kind, pieces as usize);
         self.kinds.count("piles", piles);
+        count_row(&mut self.kinds, &marks_of(row, set));
+        count_sum(&mut self.kinds, WIDE_SHARE, piles, due.1);
     }
+}
+
+/// The marks of the set's pieces, rising.
+fn marks_of(row: &Row, set: u16) -> Vec<u64> {
+    members(usize::from(set)).map(|piece| u64::from(row[piece])).collect()
 }
 
 /// The solver's answer.
 fn due(row: &Row, set: u16, piles: usize) -> Answer {
-    let set = usize::from(set);
     if !(1..=MOST_YARDS).contains(&piles) {
         return (4, LENT.1, LENT.2);
     }
-    if members(set).any(|piece| piece >= MOST_PIECES) {
+    if members(usize::from(set)).any(|piece| piece >= MOST_PIECES) {
         return (5, LENT.1, LENT.2);
     }
-    let marks: Vec<u64> = members(set).map(|piece| u64::from(row[piece])).collect();
-    let cut = cut(&marks, piles);
+    let cut = cut(&marks_of(row, set), piles);
+    (0, cut.share, partition_of(&cut.layout))
+}
+
+/// Places not in use are 0.
+fn partition_of(layout: &[usize]) -> Partition {
     let mut partition = [0; MOST_PIECES];
-    partition.iter_mut().zip(cut.layout).for_each(|(place, pile)| *place = pile as u8);
-    (0, cut.share, partition)
+    partition.iter_mut().zip(layout).for_each(|(place, pile)| *place = *pile as u8);
+    partition
 }
 
 #[cfg(test)]
-mod tests {
-    use super::{all_small, due, refused, Answer, Entry, Harness, Kinds, Partition, Row};
-
-    fn passes(entry: Entry) -> bool {
-        let mut harness = Harness { entry, calls: 0, kinds: Kinds::default() };
-        refused(&mut harness).and_then(|()| all_small(&mut harness)).is_ok()
-    }
-
-    /// Answers as the library should, but for this change.
-    fn changed(
-        change: fn(&mut Answer, usize),
-    ) -> impl Fn(&Row, u16, usize, &mut u64, &mut Partition) -> u8 {
-        move |row, set, piles, share, partition| {
-            let mut answer = due(row, set, piles);
-            change(&mut answer, piles);
-            (*share, *partition) = (answer.1, answer.2);
-            answer.0
-        }
-    }
-
-    #[test]
-    fn right_answers_pass() {
-        assert!(passes(&changed(|_, _| ())));
-    }
-
-    #[test]
-    fn wrong_answers_are_found() {
-        let wrong: [fn(&mut Answer, usize); 6] = [
-            |answer, _| answer.0 = if answer.0 == 5 { 4 } else { answer.0 },
-            |answer, piles| answer.0 = if piles == 258 { 0 } else { answer.0 },
-            |answer, _| answer.1 += u64::from(answer.0 == 0 && answer.1 == 3),
-            |answer, _| answer.1 = if answer.0 == 4 { 0 } else { answer.1 },
-            |answer, _| answer.2[11] = if answer.0 == 0 { 1 } else { answer.2[11] },
-            |answer, _| answer.2[1..3].reverse(),
-        ];
-        for (number, change) in wrong.into_iter().enumerate() {
-            assert!(!passes(&changed(change)), "{number}");
-        }
-    }
-}
+mod tests;

@@ -10,6 +10,8 @@ use crate::generator::Generator;
 use crate::limits::LONGEST_TEXT;
 
 pub use bytes::one_byte_away;
+#[cfg(test)]
+pub use numbers::renumbered;
 
 type Kind = fn(&mut Generator, &[u8]) -> Vec<u8>;
 
@@ -42,7 +44,7 @@ fn several_reasons(generator: &mut Generator, _: &[u8]) -> Vec<u8> {
     let yards = either("2", "7");
     let pieces = either("2", "13");
     let close = either(")", "");
-    let mark = either("6", "70000");
+    let mark = either("6", "5000000000");
     let marks = either("3 4", "3 04");
     let end = either("(end)", "(End)");
     let filling = either("", &spaces);

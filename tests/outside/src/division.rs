@@ -20,10 +20,15 @@ pub struct Division {
 }
 
 pub fn divide(sheet: &Sheet) -> Division {
+    divide_by(sheet, sheet.marks.iter().map(|row| cut(row, sheet.yards)).collect())
+}
+
+/// The division in which these are the maximin shares and cuts of all items.
+pub(crate) fn divide_by(sheet: &Sheet, cuts: Vec<Cut>) -> Division {
     let mut division = Division {
         grade: 0,
         bundles: vec![Vec::new(); sheet.yards],
-        cuts: sheet.marks.iter().map(|row| cut(row, sheet.yards)).collect(),
+        cuts,
         cutters: Vec::new(),
         tied_rounds: Vec::new(),
     };

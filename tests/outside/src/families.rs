@@ -1,13 +1,15 @@
 //! The families of random tables. Each makes the marks for given counts of yards and pieces.
 
+mod wide;
+
 use crate::generator::Generator;
-use crate::limits::GREATEST_MARK;
+use crate::limits::{GREATEST_MARK, GREATEST_MARK_BEFORE};
 use crate::piles::{even_row, size, wanting, PILE_WORTH};
 
 type Marks = Vec<Vec<u64>>;
 type Family = fn(&mut Generator, usize, usize) -> Marks;
 
-pub const FAMILIES: [(&str, Family); 12] = [
+pub const FAMILIES: [(&str, Family); 16] = [
     ("uniform marks", uniform),
     ("few distinct marks", few_distinct),
     ("equal rows", equal_rows),
@@ -15,19 +17,27 @@ pub const FAMILIES: [(&str, Family); 12] = [
     ("permuted rows", permuted_rows),
     ("many zeros", many_zeros),
     ("one or two heavy pieces", heavy_pieces),
-    ("marks at the limit", at_the_limit),
+    ("marks at the limit", wide::at_the_limit),
     ("proportional rows", proportional_rows),
     ("each yard alone in valuing one piece", own_piece),
     ("yards that want chosen piles", chosen_piles),
     ("one yard served in each round", one_served),
+    ("marks just below the limit", wide::just_below_the_limit),
+    ("marks that differ in the last digit", wide::last_digit),
+    ("marks about multiples of 65,536", wide::about_16_bits),
+    ("rows times a large factor", wide::multiplied),
 ];
+
+/// The greatest mark before order 3, and now.
+const LIMITS: [u64; 2] = [GREATEST_MARK_BEFORE, GREATEST_MARK];
 
 fn row<T>(pieces: usize, mark: impl FnMut(usize) -> T) -> Vec<T> {
     (0..pieces).map(mark).collect()
 }
 
 fn uniform(generator: &mut Generator, yards: usize, pieces: usize) -> Marks {
-    let mut mark = |_| generator.between(0, GREATEST_MARK);
+    let limit = generator.choose(&LIMITS);
+    let mut mark = |_| generator.between(0, limit);
     (0..yards).map(|_| row(pieces, &mut mark)).collect()
 }
 
@@ -74,22 +84,15 @@ fn many_zeros(generator: &mut Generator, yards: usize, pieces: usize) -> Marks {
 /// One or two pieces of each row are worth more than all others together.
 fn heavy_pieces(generator: &mut Generator, yards: usize, pieces: usize) -> Marks {
     let light = generator.choose(&[3, 40, 2_000]);
+    let limit = generator.choose(&LIMITS);
     let mut heavy_row = |_| {
         let mut marks = row(pieces, |_| generator.between(0, light));
         for _ in 0..generator.between(1, 2) {
-            marks[generator.index(pieces)] = generator.between(12 * light, GREATEST_MARK);
+            marks[generator.index(pieces)] = generator.between(12 * light, limit);
         }
         marks
     };
     (0..yards).map(&mut heavy_row).collect()
-}
-
-fn at_the_limit(generator: &mut Generator, yards: usize, pieces: usize) -> Marks {
-    let limit = GREATEST_MARK;
-    let marks = [limit, limit, limit, limit - 1, limit / 2, 1, 0];
-    let kinds = 1 + generator.index(marks.len());
-    let mut mark = |_| generator.choose(&marks[..kinds]);
-    (0..yards).map(|_| row(pieces, &mut mark)).collect()
 }
 
 /// Every row is a multiple of the first.

@@ -155,10 +155,13 @@ pub fn filled(solution: Result<Vec<u8>, u8>, buffer: &mut [u8], length: &mut usi
 
 #[cfg(test)]
 mod tests {
-    use super::{filled, Buffers, Due, Entry, Harness, Solver};
+    use super::{filled, Buffers, Due, Entry, Harness, Solver, LARGE_BUFFER};
+    use crate::limits::{GREATEST_MARK, MOST_PIECES, MOST_YARDS};
     use crate::met::Met;
     use crate::printer::shareout;
+    use crate::reader::Sheet;
     use crate::samples::{texts_of_j, SHEETS};
+    use crate::strict::strict_text;
 
     /// Answers as the library should.
     fn right(text: &[u8], buffer: &mut [u8], length: &mut usize) -> u8 {
@@ -235,6 +238,14 @@ mod tests {
         assert_eq!(Buffers::Several.lengths(9), [2_048, 9, 8, 4, 0]);
         assert_eq!(Buffers::Every.lengths(3), [0, 1, 2, 3, 4]);
         assert_eq!(Buffers::Every.lengths(0), [0, 1]);
+    }
+
+    #[test]
+    fn the_large_buffer_holds_what_is_printed_of_the_greatest_sheet() {
+        let greatest = Sheet::of(vec![vec![GREATEST_MARK; MOST_PIECES]; MOST_YARDS]);
+        let text = strict_text(&greatest);
+        assert_eq!(text.len(), 930);
+        assert!(shareout(&text).unwrap().len() + 1 < LARGE_BUFFER);
     }
 
     /// The first letter of a text, or refusal 3.

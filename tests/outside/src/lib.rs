@@ -1,4 +1,4 @@
-//! A solver for document 01, with orders 1 and 2 of document 02, that shares no code with the library it is
+//! A solver for document 01, with orders 1 to 3 of document 02, that shares no code with the library it is
 //! held against, reads by rewriting lines, and finds shares, cuts, waiting sets and servings by other
 //! methods.
 //! Yards (agents) and pieces (items) are counted from 0 inside, and from 1 in texts.
@@ -32,4 +32,5 @@ pub mod tables;
 pub mod ties;
 pub mod typed;
 pub mod verdict;
+pub mod widths;
 pub mod writer;

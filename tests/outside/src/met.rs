@@ -1,6 +1,6 @@
 //! The kinds of divisions that a comparison has met, and whether it has met all it must.
 
-use crate::division::{divide, Division};
+use crate::division::{divide, worth, Division};
 use crate::grades::{grade, tests, tests_before_order_2};
 use crate::harness::{Due, Solver};
 use crate::kinds::Kinds;
@@ -8,6 +8,7 @@ use crate::printer::print;
 use crate::promise::keeps_promise;
 use crate::reader::{read, Sheet};
 use crate::ties;
+use crate::widths::{count_row, count_sum, rows_met, sums_met, WIDE_SHARE, WIDE_WORTH};
 
 /// So many divisions must have several largest waiting sets in some round.
 const FEWEST_TIES: usize = 500;
@@ -39,6 +40,11 @@ impl Met {
             (2, 3) => self.kinds.count(REGRADED, 3),
             (before, now) => return Err(format!("grade {before} became {now}: {:?}", sheet.marks)),
         }
+        self.count(sheet, &division);
+        Ok(division)
+    }
+
+    fn count(&mut self, sheet: &Sheet, division: &Division) {
         self.divisions += 1;
         self.tied += usize::from(!division.tied_rounds.is_empty());
         self.kinds.count("grade", division.grade as usize);
@@ -46,7 +52,12 @@ impl Met {
         for left in &division.tied_rounds {
             self.kinds.count(&tie_of(sheet.yards), *left);
         }
-        Ok(division)
+        for (agent, row) in sheet.marks.iter().enumerate() {
+            let (kinds, yards) = (&mut self.kinds, sheet.yards);
+            count_row(kinds, row);
+            count_sum(kinds, WIDE_SHARE, yards, division.cuts[agent].share);
+            count_sum(kinds, WIDE_WORTH, yards, worth(row, &division.bundles[agent]));
+        }
     }
 
     pub fn print(&self) {
@@ -54,12 +65,15 @@ impl Met {
         self.kinds.print();
     }
 
-    /// Grades 1 to 4, divisions whose grade order 2 changed, one to six rounds, and ties, enough and at
-    /// all their counts of yards.
+    /// Grades 1 to 4, divisions whose grade order 2 changed, one to six rounds, the marks and sums that
+    /// order 3 is about, and ties, enough and at all their counts of yards.
     pub fn all_met(&self) -> Result<(), String> {
         self.kinds.all_met("grade", 1..=4)?;
         self.kinds.all_met(REGRADED, [3])?;
         self.kinds.all_met("rounds", 1..=6)?;
+        rows_met(&self.kinds)?;
+        sums_met(&self.kinds, WIDE_SHARE)?;
+        sums_met(&self.kinds, WIDE_WORTH)?;
         for (yards, left) in ties::COUNTS {
             self.kinds.all_met(&tie_of(yards), [left])?;
         }
@@ -88,11 +102,29 @@ fn tie_of(yards: usize) -> String {
 
 #[cfg(test)]
 mod tests {
-    use super::Met;
+    use super::{Met, REGRADED};
     use crate::families::FAMILIES;
     use crate::reader::Sheet;
     use crate::tables::of_family;
     use crate::ties;
+    use crate::widths::{count_sum, WIDE_SHARE};
+
+    #[test]
+    fn narrow_marks_and_sums_are_found() {
+        let mut met = Met::default();
+        (1..=4).for_each(|grade| met.kinds.count("grade", grade));
+        met.kinds.count(REGRADED, 3);
+        (1..=6).for_each(|rounds| met.kinds.count("rounds", rounds));
+        let result = |met: &Met| met.all_met().err().unwrap_or_default();
+        assert_eq!(result(&met), "never met: mark above 65,535, digits 5");
+        let bases = (1..10).map(|digits| 4 * 10u64.pow(digits)).chain([65_536]);
+        for base in bases {
+            assert!(met.divide(&Sheet::of(vec![vec![base, base + 1]])).is_ok());
+        }
+        assert_eq!(result(&met), "never met: share above 4,294,967,295, piles 2");
+        (2..=6).for_each(|piles| count_sum(&mut met.kinds, WIDE_SHARE, piles, 1 << 32));
+        assert_eq!(result(&met), "never met: worth above 4,294,967,295, yards 2");
+    }
 
     #[test]
     fn no_change_of_grade_is_found() {

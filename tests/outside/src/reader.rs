@@ -1,7 +1,7 @@
 //! Reads a sheet (document 01, "The sheet" and refusals 1 to 8) line by line, in the spelling that
 //! order 1 leaves. A line counts only with its line feed; an answer `Err` is the refusal's number.
 
-use crate::limits::{GREATEST_MARK, LONGEST_TEXT, MOST_PIECES, MOST_YARDS};
+use crate::limits::{GREATEST_MARK, LONGEST_TEXT, MARK_DIGITS, MOST_PIECES, MOST_YARDS};
 use crate::spelling::strict_spelling;
 
 #[derive(Debug, PartialEq)]
@@ -68,12 +68,12 @@ fn head_line(line: &[u8]) -> Option<(usize, usize)> {
     Some((yards as usize, pieces as usize))
 }
 
-/// `(yard N (marks M .. M))` with the number due and "one mark for each piece, each of one to five digits".
+/// `(yard N (marks M .. M))` with the number due and "one mark for each piece", each "in one to ten digits".
 fn yard_line(line: &[u8], due: usize, pieces: usize) -> Option<Vec<u64>> {
     let start = format!("(yard {due} (marks ");
     let marks = line.strip_prefix(start.as_bytes())?.strip_suffix(b"))")?;
-    let row: Vec<u64> =
-        marks.split(|byte| *byte == b' ').map(|word| number(word, 5)).collect::<Option<_>>()?;
+    let words = marks.split(|byte| *byte == b' ');
+    let row: Vec<u64> = words.map(|word| number(word, MARK_DIGITS)).collect::<Option<_>>()?;
     (row.len() == pieces).then_some(row)
 }
 
@@ -124,7 +124,13 @@ mod tests {
         assert_eq!(refusal(&SHEET_A.replace("5 3 4", "5 03 4")), 6);
         assert_eq!(refusal(SHEET_A.trim_end()), 7);
         assert_eq!(refusal(&(SHEET_A.to_owned() + "x\n")), 7);
-        assert_eq!(refusal(&SHEET_A.replace("5 3 4", "70000 3 4").replace("(end)", "(END)")), 7);
+        let with_mark = |mark: &str, end: &str| {
+            refusal(&SHEET_A.replace("5 3 4", &format!("5 3 {mark}")).replace("(end)", end))
+        };
+        assert_eq!(with_mark("70000", "(end)"), 0);
+        assert_eq!(with_mark("5000000000", "(end)"), 8);
+        assert_eq!(with_mark("5000000000", "(END)"), 7);
+        assert_eq!(with_mark("50000000000", "(END)"), 6);
     }
 
     /// Sheet a with this change carries the same counts and marks.

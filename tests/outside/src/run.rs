@@ -45,3 +45,6 @@ pub fn run(entry: Entry) -> Result<(), String> {
     typed::all_met(&counts.kinds, FEWEST_TYPED)?;
     harness.solver.all_met()
 }
+
+#[cfg(test)]
+mod tests;

@@ -1,5 +1,5 @@
-//! The sample sheets of document 01, two that are even, and sheets as yards type them, read from the
-//! folder `samples`.
+//! The sample sheets of document 01, two that are even, the three players of document 000, and sheets as
+//! yards type them, read from the folder `samples`.
 
 use crate::limits::LONGEST_TEXT;
 use crate::reader::Sheet;
@@ -14,8 +14,8 @@ macro_rules! sample {
 pub const SHEET_A: &str = sample!("a");
 
 /// Name, text, and the figures where they are given: shares, piles, cutters, grade. Those of a to i are
-/// the document's, with the grades of order 2.
-pub const SHEETS: [(&str, &str, &str); 11] = [
+/// the document's, with the grades of order 2, and the shares of the three players are order 3's.
+pub const SHEETS: [(&str, &str, &str); 12] = [
     ("a", SHEET_A, "[5, 4] [[1], [2, 3]] [1] 3"),
     ("b", sample!("b"), "[1, 6, 2] [[3], [1, 2], [4]] [1, 2] 3"),
     ("c", sample!("c"), "[1, 4, 1] [[1, 2], [3], [4]] [1] 4"),
@@ -30,6 +30,11 @@ pub const SHEETS: [(&str, &str, &str); 11] = [
         "even, two rounds",
         sample!("even_rounds"),
         "[9, 7, 9, 6] [[3], [1, 2], [5, 6], [4]] [1, 2] 2",
+    ),
+    (
+        "three players",
+        sample!("three_players"),
+        "[4055000, 4055000, 4055000] [[1, 2, 3, 4], [5, 6, 7, 8], [9, 10, 11, 12]] [1] 4",
     ),
 ];
 
@@ -49,10 +54,11 @@ const LARGER: &str = "(sheet (yards 3) (pieces 12))\n\
     (yard 3 (marks 1300 900 900 350 350 350 80 40 40 40 40 40))\n\
     (end)\n";
 
-/// The texts of sample j, each with its refusal's number, or 0 if it passes.
+/// The texts of sample j as order 3 moved it, each with its refusal's number, or 0 if it passes.
 pub fn texts_of_j() -> Vec<(Vec<u8>, u8)> {
     let counts = [(6, 3, 0), (0, 3, 4), (7, 3, 4), (2, 12, 0), (2, 0, 5), (2, 13, 5)];
-    let first_marks = [("65535", 0), ("65536", 8), ("99999", 8), ("100000", 6), ("05", 6)];
+    let first_marks =
+        [("4294967295", 0), ("4294967296", 8), ("9999999999", 8), ("10000000000", 6), ("05", 6)];
     let mut texts = Vec::new();
     for (yards, pieces, refusal) in counts {
         texts.push((text_of_ones(yards, pieces, "1"), refusal));
@@ -60,7 +66,7 @@ pub fn texts_of_j() -> Vec<(Vec<u8>, u8)> {
     for (mark, refusal) in first_marks {
         texts.push((text_of_ones(2, 3, mark), refusal));
     }
-    texts.push((text_of_ones(7, 3, "70000"), 4));
+    texts.push((text_of_ones(7, 3, "5000000000"), 4));
     let mut too_long = text_of_ones(2, 3, "1");
     too_long.resize(LONGEST_TEXT + 1, b'\n');
     texts.push((too_long, 1));
@@ -77,6 +83,24 @@ fn text_of_ones(yards: usize, pieces: usize, first: &str) -> Vec<u8> {
 #[cfg(test)]
 mod tests {
     use super::TYPED;
+    use crate::reader::read;
+
+    /// "10^6 B + 10^3 O + E", where B is 1 everywhere: O and the three E of document 000, section 2, row by row.
+    #[test]
+    fn the_three_players_are_those_of_document_000() {
+        let oscillation = [17, 25, 12, 1, 2, 22, 3, 28, 11, 0, 21, 23];
+        let epsilon = [
+            [3, -1, -1, -1, 0, 0, 0, 0, 0, 0, 0, 0],
+            [3, -1, 0, 0, -1, 0, 0, 0, -1, 0, 0, 0],
+            [3, 0, -1, 0, 0, 0, -1, 0, 0, 0, 0, -1],
+        ];
+        let mark = |player: usize, piece: usize| {
+            (1_000_000 + 1_000 * oscillation[piece] + epsilon[player][piece]) as u64
+        };
+        let row = |player| (0..12).map(|piece| mark(player, piece)).collect();
+        let players: Vec<Vec<u64>> = (0..3).map(row).collect();
+        assert_eq!(read(sample!("three_players").as_bytes()).unwrap().marks, players);
+    }
 
     #[test]
     fn every_typed_sample_is_listed() {

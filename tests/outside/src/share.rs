@@ -3,6 +3,7 @@
 //! whose bit k stands for item k. The marks handed in are those of the set's items, rising.
 
 /// The maximin share, and the cut: for each item its bundle, counted from 1.
+#[derive(Debug, PartialEq)]
 pub struct Cut {
     pub share: u64,
     pub layout: Vec<usize>,
@@ -104,27 +105,30 @@ fn lay((covered, laid): (usize, u64), mark: u64, lacks: &[u64]) -> (usize, u64) 
     }
 }
 
+/// The definition itself, with this for the sum of two worths: every layout in dictionary order, the
+/// first with the greatest least pile.
+#[cfg(test)]
+pub fn by_definition(marks: &[u64], bundles: usize, sum: fn(u64, u64) -> u64) -> Cut {
+    let mut best: Option<Cut> = None;
+    for number in 0..bundles.pow(marks.len() as u32) {
+        let digit = |item: usize| number / bundles.pow((marks.len() - 1 - item) as u32) % bundles;
+        let layout: Vec<usize> = (0..marks.len()).map(|item| digit(item) + 1).collect();
+        let mut worths = vec![0; bundles];
+        for (bundle, mark) in layout.iter().zip(marks) {
+            worths[bundle - 1] = sum(worths[bundle - 1], *mark);
+        }
+        let share = *worths.iter().min().unwrap();
+        if best.as_ref().is_none_or(|cut| share > cut.share) {
+            best = Some(Cut { share, layout });
+        }
+    }
+    best.unwrap()
+}
+
 #[cfg(test)]
 mod tests {
-    use super::{can_cover, cut};
+    use super::{by_definition, can_cover, cut};
     use crate::generator::Generator;
-
-    /// The definition itself: every layout in dictionary order, the first with the greatest least pile.
-    fn by_definition(marks: &[u64], bundles: usize) -> (u64, Vec<usize>) {
-        let mut best: Option<(u64, Vec<usize>)> = None;
-        for number in 0..bundles.pow(marks.len() as u32) {
-            let digit =
-                |item: usize| number / bundles.pow((marks.len() - 1 - item) as u32) % bundles;
-            let layout: Vec<usize> = (0..marks.len()).map(|item| digit(item) + 1).collect();
-            let mut worths = vec![0; bundles];
-            layout.iter().zip(marks).for_each(|(bundle, mark)| worths[bundle - 1] += mark);
-            let least = *worths.iter().min().unwrap();
-            if best.as_ref().is_none_or(|(share, _)| least > *share) {
-                best = Some((least, layout));
-            }
-        }
-        best.unwrap()
-    }
 
     #[test]
     fn samples_g_and_h() {
@@ -150,10 +154,10 @@ mod tests {
         let mut generator = Generator::new(1);
         for round in 0..600 {
             let (bundles, items) = (1 + round % 6, round / 6 % 7);
-            let bound = [2, 4, 12, 65_536][round % 4];
+            let bound = [2, 4, 12, 65_536, 1 << 32][round % 5];
             let marks: Vec<u64> = (0..items).map(|_| generator.below(bound)).collect();
-            let answer = cut(&marks, bundles);
-            assert_eq!((answer.share, answer.layout), by_definition(&marks, bundles), "{marks:?}");
+            let due = by_definition(&marks, bundles, |worth, mark| worth + mark);
+            assert_eq!(cut(&marks, bundles), due, "{marks:?}");
         }
     }
 
@@ -163,7 +167,8 @@ mod tests {
         let mut generator = Generator::new(2);
         for round in 0..60 {
             let bundles = 1 + round % 6;
-            let marks: Vec<u64> = (0..12).map(|_| generator.below(65_536)).collect();
+            let bound = [65_536, 1 << 32][round / 6 % 2];
+            let marks: Vec<u64> = (0..12).map(|_| generator.below(bound)).collect();
             let share = cut(&marks, bundles).share;
             assert!(can_cover(&marks, &vec![share; bundles]));
             assert!(!can_cover(&marks, &vec![share + 1; bundles]));

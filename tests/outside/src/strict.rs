@@ -1,7 +1,9 @@
 //! The strict text of a sheet, as document 01 lays it out, and order 1's writer from any text to it.
 
 use crate::harness::{Due, Solver};
+use crate::kinds::Kinds;
 use crate::reader::{read, Sheet};
+use crate::widths::count_row;
 
 pub fn strict_text(sheet: &Sheet) -> Vec<u8> {
     let mut text = format!("(sheet (yards {}) (pieces {}))\n", sheet.yards, sheet.pieces);
@@ -18,9 +20,11 @@ pub fn strict(text: &[u8]) -> Result<Vec<u8>, u8> {
     Ok(strict_text(&read(text)?))
 }
 
-/// The writer to hold a library's writer against.
+/// The writer to hold a library's writer against, and the kinds of rows that it has met.
 #[derive(Default)]
-pub struct Writer;
+pub struct Writer {
+    pub kinds: Kinds,
+}
 
 impl Solver for Writer {
     const GIVES_ITSELF: bool = true;
@@ -31,6 +35,7 @@ impl Solver for Writer {
             Ok(sheet) => sheet,
             Err(refusal) => return Ok(Due::Refused(refusal)),
         };
+        sheet.marks.iter().for_each(|row| count_row(&mut self.kinds, row));
         let written = strict_text(&sheet);
         match read(&written) == Ok(sheet) {
             true => Ok(Due::Text(written)),

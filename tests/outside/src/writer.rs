@@ -9,6 +9,7 @@ use crate::progress::Progress;
 use crate::samples::{SHEET_A, SHEET_AS_TYPED};
 use crate::strict::Writer;
 use crate::typed;
+use crate::widths::rows_met;
 
 const OF_EACH_TYPING: usize = 6_000;
 /// So many texts of each kind of typing must be met, and of either outcome that it has.
@@ -26,8 +27,10 @@ pub fn run(entry: Entry) -> Result<(), String> {
     let counts = &harness.counts;
     println!("texts {}, of them typed {typed}, calls {}", counts.texts, counts.calls);
     counts.kinds.print();
+    harness.solver.kinds.print();
     counts.kinds.all_met("refusal", (1..=8).chain([10]))?;
     typed::all_met(&counts.kinds, FEWEST_TYPED)?;
+    rows_met(&harness.solver.kinds)?;
     match typed < FEWEST_IN_ALL {
         true => Err(format!("typed texts: {typed}")),
         false => Ok(()),

@@ -4,6 +4,7 @@
 use std::process::ExitCode;
 
 use outside::cuts::{run, Partition, Row};
+use outside::limits::Mark;
 use outside::verdict::verdict;
 
 #[link(name = "cut_c", kind = "static")]
@@ -11,7 +12,7 @@ extern "C" {
     /// Twelve marks, the set of pieces (bit k - 1 for piece k), the number of piles; writes the share
     /// and, for each piece of the set in rising order, its pile from 1. Answers 0 or the refusal's number.
     fn cut_row(
-        marks: *const u16,
+        marks: *const Mark,
         set: u16,
         bundles: usize,
         share: *mut u64,

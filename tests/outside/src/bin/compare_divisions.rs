@@ -5,6 +5,7 @@
 use std::process::ExitCode;
 
 use outside::divisions::{run, Cutters, Piles, Table};
+use outside::limits::Mark;
 use outside::verdict::verdict;
 
 #[link(name = "division_c", kind = "static")]
@@ -12,7 +13,7 @@ extern "C" {
     /// 72 marks row by row and the counts; writes the grade, each yard's pile as a set of pieces and
     /// the cutters from 1. Answers 0 or the refusal's number.
     fn divide_table(
-        marks: *const u16,
+        marks: *const Mark,
         agents: usize,
         items: usize,
         grade: *mut u8,

@@ -1,5 +1,5 @@
 //! Prints what the program `shareout_samples` should print: the answer to each sample sheet, those of
-//! document 01 and two that are even, by the solver of this package.
+//! document 01, two that are even and the three players of document 000, by the solver of this package.
 
 use std::io::Write;
 

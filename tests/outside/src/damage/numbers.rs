@@ -11,18 +11,20 @@ fn numbers(text: &[u8]) -> Vec<(usize, usize)> {
     starts.map(|start| (start, (start..).find(|place| !is_digit(place)).unwrap())).collect()
 }
 
-/// At a limit, just outside one, beyond a width of 8, 16, 32 or 64 bits, or not a number at all.
+/// At a limit, just outside one, beyond a width of 8, 16, 32, 48 or 64 bits, or not a number at all.
 const NUMBERS: &str =
     "0 1 2 3 6 7 12 13 99 255 256 258 999 1000 9999 65534 65535 65536 65537 70000 \
-    99999 100000 131072 4294967296 4294967297 18446744073709551615 18446744073709551617 \
-    00 01 02 05 000 065535 -1 +1 x";
+    99999 100000 131072 4294967294 4294967295 4294967296 4294967297 5000000000 8589934591 \
+    9999999999 10000000000 99999999999 281474976710656 281479271677951 \
+    18446744073709551615 18446744073709551617 00 01 02 05 000 065535 04294967295 -1 +1 x";
 
 fn other_number(generator: &mut Generator) -> Vec<u8> {
     let numbers: Vec<&str> = NUMBERS.split(' ').collect();
     match generator.below(12) {
         0 => (0..generator.between(6, 60)).map(|_| b'0' + generator.below(10) as u8).collect(),
         1 => generator.below(100_000).to_string().into_bytes(),
-        2 => Vec::new(),
+        2 => generator.below(20_000_000_000).to_string().into_bytes(),
+        3 => Vec::new(),
         _ => generator.choose(&numbers).as_bytes().to_vec(),
     }
 }
@@ -58,13 +60,33 @@ pub fn number_and_byte_altered(generator: &mut Generator, text: &[u8]) -> Vec<u8
     byte_altered(generator, &once)
 }
 
+/// The text with another number for each that has no leading zero and at most 64 bits.
+#[cfg(test)]
+pub fn renumbered(text: &[u8], other: fn(u64) -> u64) -> Vec<u8> {
+    let (mut made, mut from) = (Vec::new(), 0);
+    for (start, end) in numbers(text) {
+        let digits = String::from_utf8_lossy(&text[start..end]).into_owned();
+        let number = digits.parse().ok().filter(|number: &u64| number.to_string() == digits);
+        made.extend(&text[from..start]);
+        made.extend(number.map_or(digits, |number| other(number).to_string()).bytes());
+        from = end;
+    }
+    [&made, &text[from..]].concat()
+}
+
 #[cfg(test)]
 mod tests {
-    use super::numbers;
+    use super::{numbers, renumbered};
 
     #[test]
     fn runs_of_digits_are_found() {
         assert_eq!(numbers(b"12 a3(456"), [(0, 2), (4, 5), (6, 9)]);
         assert_eq!(numbers(b""), []);
+    }
+
+    #[test]
+    fn numbers_get_others() {
+        let doubled = renumbered(b"6 a07(8x00 99999999999999999999)", |number| 2 * number);
+        assert_eq!(doubled, b"12 a07(16x00 99999999999999999999)");
     }
 }

@@ -1,12 +1,14 @@
 //! Wrong writers, each of which the comparison must find.
 
 use super::{every_length, Harness, Writer};
+use crate::damage::renumbered;
 use crate::harness::{filled, Entry};
 use crate::limits::LONGEST_TEXT;
 use crate::parts;
 use crate::spelling::strict_spelling;
 use crate::strict::strict;
 use crate::typed;
+use crate::widths::rows_met;
 
 /// Writes as the library should.
 fn right(text: &[u8], buffer: &mut [u8], length: &mut usize) -> u8 {
@@ -23,6 +25,16 @@ fn passes(entry: Entry) -> bool {
 #[test]
 fn a_right_writer_passes() {
     assert!(passes(&right));
+}
+
+#[test]
+fn typed_texts_have_wide_marks() {
+    let mut harness = Harness::<Writer>::new(&right);
+    assert!(parts::samples(&mut harness).is_ok());
+    assert!(rows_met(&harness.solver.kinds).is_err());
+    assert!(every_length(&mut harness).is_ok());
+    assert!(parts::typed(&mut harness, 0, 300).is_ok());
+    assert_eq!(rows_met(&harness.solver.kinds), Ok(()));
 }
 
 /// Each byte of the text, with whether it stands in a remark, as other bytes.
@@ -93,7 +105,7 @@ fn layout_by_brackets(text: &[u8]) -> Vec<u8> {
 type Misread = (&'static str, fn(&[u8]) -> Vec<u8>);
 
 /// What a wrong reader takes a text for.
-const MISREAD: [Misread; 15] = [
+const MISREAD: [Misread; 20] = [
     ("the line feed goes with a remark", |text| {
         linewise(text, |line| at_semicolon(line).0.to_vec())
     }),
@@ -131,7 +143,25 @@ const MISREAD: [Misread; 15] = [
     ("a space at a line's beginning is not dropped", |text| {
         linewise(text, |line| [if line[0] == b' ' { &b"x"[..] } else { b"" }, line].concat())
     }),
+    ("a mark is cut off to 16 bits", |text| {
+        renumbered(text, |mark| if mark <= TEN_DIGITS { mark & 0xffff } else { mark })
+    }),
+    ("a mark is cut off to 32 bits", |text| {
+        renumbered(text, |mark| if mark <= TEN_DIGITS { mark & 0xffff_ffff } else { mark })
+    }),
+    ("a mark above 65,535 is too great", |text| {
+        renumbered(text, |mark| if mark > 65_535 { mark.max(TEN_DIGITS) } else { mark })
+    }),
+    ("a mark of six digits is too long", |text| {
+        renumbered(text, |mark| if mark > 99_999 { TEN_DIGITS + 1 } else { mark })
+    }),
+    ("a mark of eleven digits is not too long", |text| {
+        renumbered(text, |mark| if mark / 10 <= TEN_DIGITS { mark.min(TEN_DIGITS) } else { mark })
+    }),
 ];
+
+/// The greatest number of ten digits.
+const TEN_DIGITS: u64 = 9_999_999_999;
 
 /// A text is misread only where that leaves refusals 1 and 2 as they are.
 #[test]

@@ -23,8 +23,10 @@ fn main() {
     }
     for mark in [
         "0", "9", "10", "65534", "65535", "65536", "65537", "70000", "99999", "100000", "131072",
-        "05", "00", "000000", "", "12345678901234567890", "18446744073709551617",
-        "99999999999999999999999999", "-1", "+1", "1.", "1,000", "0x1", "x", "()",
+        "4294967294", "4294967295", "4294967296", "4294967297", "4295032831", "5000000000",
+        "9999999999", "10000000000", "05", "00", "000000", "", "12345678901234567890",
+        "18446744073709551617", "99999999999999999999999999", "-1", "+1", "1.", "1,000", "0x1",
+        "x", "()",
     ] {
         marks(mark);
     }
@@ -95,7 +97,7 @@ fn orders() {
     let cases = [
         (
             "7 yards and a large mark",
-            "(sheet (yards 7) (pieces 1))\n(yard 1 (marks 70000))\n(end)\n".to_string(),
+            "(sheet (yards 7) (pieces 1))\n(yard 1 (marks 5000000000))\n(end)\n".to_string(),
         ),
         ("0 yards and 13 pieces", "(sheet (yards 0) (pieces 13))\n(end)\n".to_string()),
         (
@@ -108,19 +110,25 @@ fn orders() {
         ),
         (
             "large mark, then a malformed line",
-            format!("{head}(yard 1 (marks 70000))\n(yard 2 (marks 05))\n(end)\n"),
+            format!("{head}(yard 1 (marks 5000000000))\n(yard 2 (marks 05))\n(end)\n"),
         ),
-        ("large mark, then a missing line", format!("{head}(yard 1 (marks 70000))\n(end)\n")),
+        ("large mark, then a missing line", format!("{head}(yard 1 (marks 5000000000))\n(end)\n")),
         (
             "large mark, then a long one",
-            format!("{head}(yard 1 (marks 70000))\n(yard 2 (marks 100000))\n(end)\n"),
+            format!("{head}(yard 1 (marks 5000000000))\n(yard 2 (marks 10000000000))\n(end)\n"),
         ),
-        ("large mark and no end", format!("{head}(yard 1 (marks 70000))\n(yard 2 (marks 1))\n")),
+        (
+            "large mark and no end",
+            format!("{head}(yard 1 (marks 5000000000))\n(yard 2 (marks 1))\n"),
+        ),
         (
             "large mark and a blank line after the end",
-            format!("{head}(yard 1 (marks 1))\n(yard 2 (marks 70000))\n(end)\n\n"),
+            format!("{head}(yard 1 (marks 1))\n(yard 2 (marks 5000000000))\n(end)\n\n"),
         ),
-        ("large mark alone", format!("{head}(yard 1 (marks 1))\n(yard 2 (marks 70000))\n(end)\n")),
+        (
+            "large mark alone",
+            format!("{head}(yard 1 (marks 1))\n(yard 2 (marks 5000000000))\n(end)\n"),
+        ),
     ];
     for (label, text) in cases {
         show(label, text.as_bytes());

@@ -64,6 +64,6 @@ pub const CASES: [(&str, &[u8]); 25] = [
     ),
     (
         "large mark and a line after the end",
-        b"( sheet (yards 1)(pieces 2)) ;\n\n(yard 1 (marks 5 70000))\n(end)\nx\n",
+        b"( sheet (yards 1)(pieces 2)) ;\n\n(yard 1 (marks 5 5000000000))\n(end)\nx\n",
     ),
 ];
