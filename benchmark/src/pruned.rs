@@ -1,17 +1,17 @@
 //! The pruned walk: growth layouts in dictionary order, depth first, leaving a branch as soon as
 //! the items still to lay cannot bring every bundle to the goal, one more than the best so far.
 
-use crate::cut::{Cut, MOST_BUNDLES, MOST_ITEMS};
+use crate::cut::{Cut, Mark, MOST_BUNDLES, MOST_ITEMS};
 
 struct Walk<'a> {
-    marks: &'a [u16],
+    marks: &'a [Mark],
     bundles: usize,
     loads: [u64; MOST_BUNDLES],
     layout: [u8; MOST_ITEMS],
     best: Cut,
 }
 
-pub fn cut(marks: &[u16], bundles: usize) -> Cut {
+pub fn cut(marks: &[Mark], bundles: usize) -> Cut {
     let mut walk = Walk {
         marks,
         bundles,
@@ -24,7 +24,7 @@ pub fn cut(marks: &[u16], bundles: usize) -> Cut {
 }
 
 /// The first of all layouts.
-fn all_in_first(marks: &[u16], bundles: usize) -> Cut {
+fn all_in_first(marks: &[Mark], bundles: usize) -> Cut {
     let mut layout = [0; MOST_ITEMS];
     layout[..marks.len()].fill(1);
     let total: u64 = marks.iter().copied().map(u64::from).sum();
@@ -65,5 +65,23 @@ impl Walk<'_> {
                 loads.iter().map(|load| threshold.min(goal.saturating_sub(*load))).sum();
             to_lay < lacking
         })
+    }
+}
+
+#[cfg(test)]
+mod tests {
+    use crate::families::{rows, FAMILIES};
+    use crate::{plain, pruned};
+
+    #[test]
+    fn the_two_walks_agree() {
+        for (name, rule) in FAMILIES {
+            for row in rows(rule) {
+                for bundles in 1..=3 {
+                    let [pruned, plain] = [pruned::cut(&row, bundles), plain::cut(&row, bundles)];
+                    assert_eq!(pruned, plain, "{name}: {row:?} in {bundles} piles");
+                }
+            }
+        }
     }
 }
