@@ -6,8 +6,8 @@ use mathlib.Core.Bool.{true}
 use mathlib.Core.List.{List, [], _∷_, map, flatMap}
 use Prim.Native.Nat.{ℕ, _*_}
 use native.Mathlib.Omega.{arith}
-use lib.ListN.{length}
-use Rattle.lists.specs.Lists.{range, all}
+use lib.ListN.{length, replicate}
+use Rattle.lists.specs.Lists.{range, nth, all}
 use Rattle.lists.specs.Sums.{total}
 use Rattle.text.specs.Bytes.{bytes}
 use Rattle.sheet.specs.Limits.{within}
@@ -20,7 +20,7 @@ use Rattle.lexing.specs.Forms as forms
 use Rattle.lexing.specs.Numbers as numbers
 use Rattle.reading.specs.Grammar as grammar
 use Rattle.reading.specs.Reading.{reading, tableOf}
-use Rattle.cut.specs.Share.{leastBundle}
+use Rattle.cut.specs.Share.{bundleValue, leastBundle}
 use Rattle.cut.proofs.Laws.{maximinShare-of-total}
 use Rattle.shares.specs.Shares.{shareOf}
 
@@ -36,20 +36,32 @@ pub three-players-read : reading (bytes "(sheet (yards 3) (pieces 12))\n(yard 1 
 unfolding reading grammar.endLine grammar.yardLine grammar.yardTurn grammar.head numbers.numberAfter numbers.number numbers.digitsAfter numbers.isNumber forms.inTurn forms.follow onFirst lines beforeRemark extended words lineTokens tokens flatMap
 three-players-read = refl
 
--- the share of one player, from a partition
-module _ (i : ℕ) (partition : List ℕ) where
-  values : List ℕ
-  values = allValues 12 (valuation (tableOf players) i)
+-- the values that player i puts on the twelve items
+abbrev values : ℕ → List ℕ
+values i = allValues 12 (valuation (tableOf players) i)
 
-  share-shown : all (within 3) partition ≡ true → length partition ≡ 12 → leastBundle 3 values partition ≡ 4055000 → 3 * 4055000 ≡ total values
-      → shareOf 3 12 (tableOf players) i ≡ 4055000
-  unfolding values
-  share-shown in-bundles each reached whole = maximinShare-of-total 3 values (omega arith) 4055000 partition (each-within 3 partition in-bundles) each reached whole
+-- a partition for each player: by the rows, and by the labels α β γ and + - * of the document
+abbrev pub layouts : List (List ℕ)
+layouts =
+    (1 ∷ 1 ∷ 1 ∷ 1 ∷ 2 ∷ 2 ∷ 2 ∷ 2 ∷ 3 ∷ 3 ∷ 3 ∷ 3 ∷ [])
+    ∷ (1 ∷ 1 ∷ 2 ∷ 3 ∷ 1 ∷ 2 ∷ 3 ∷ 3 ∷ 1 ∷ 2 ∷ 2 ∷ 3 ∷ [])
+    ∷ (1 ∷ 2 ∷ 1 ∷ 3 ∷ 2 ∷ 3 ∷ 1 ∷ 2 ∷ 3 ∷ 2 ∷ 3 ∷ 1 ∷ [])
+    ∷ []
 
--- the partitions are the rows, and the labels α β γ and + - * of the document
-pub three-players-shares : map (shareOf 3 12 (tableOf players)) (range 1 3) ≡ 4055000 ∷ 4055000 ∷ 4055000 ∷ []
-unfolding values
+-- each total is three times 4,055,000, and each bundle of these partitions is worth 4,055,000
+pub three-players-totals : map (λ i. total (values i)) (range 1 3) ≡ replicate 3 (3 * 4055000)
+three-players-totals = refl
+
+pub three-players-bundles : map (λ i. map (λ c. bundleValue c (values i) (nth [] layouts i)) (range 1 3)) (range 1 3) ≡ replicate 3 (replicate 3 4055000)
+three-players-bundles = refl
+
+-- so that is each player's share
+share-shown : (i : ℕ) (l : List ℕ) → all (within 3) l ≡ true → length l ≡ 12 → leastBundle 3 (values i) l ≡ 4055000 → 3 * 4055000 ≡ total (values i)
+    → shareOf 3 12 (tableOf players) i ≡ 4055000
+share-shown i l in-bundles each reached whole = maximinShare-of-total 3 (values i) (omega arith) 4055000 l (each-within 3 l in-bundles) each reached whole
+
+pub three-players-shares : map (shareOf 3 12 (tableOf players)) (range 1 3) ≡ replicate 3 4055000
 three-players-shares =
-    ap₂ _∷_ (share-shown 1 (1 ∷ 1 ∷ 1 ∷ 1 ∷ 2 ∷ 2 ∷ 2 ∷ 2 ∷ 3 ∷ 3 ∷ 3 ∷ 3 ∷ []) refl refl refl refl)
-    (ap₂ _∷_ (share-shown 2 (1 ∷ 1 ∷ 2 ∷ 3 ∷ 1 ∷ 2 ∷ 3 ∷ 3 ∷ 1 ∷ 2 ∷ 2 ∷ 3 ∷ []) refl refl refl refl)
-    (ap₂ _∷_ (share-shown 3 (1 ∷ 2 ∷ 1 ∷ 3 ∷ 2 ∷ 3 ∷ 1 ∷ 2 ∷ 3 ∷ 2 ∷ 3 ∷ 1 ∷ []) refl refl refl refl) refl))
+    ap₂ _∷_ (share-shown 1 (nth [] layouts 1) refl refl refl refl)
+    (ap₂ _∷_ (share-shown 2 (nth [] layouts 2) refl refl refl refl)
+    (ap₂ _∷_ (share-shown 3 (nth [] layouts 3) refl refl refl refl) refl))
