@@ -15,10 +15,11 @@ printing agents items table room = andThen (division.answer agents items table) 
 abbrev pub longestHead : ℕ
 longestHead = 43
 
--- the most bytes of a pile, and of a cut: at most three for each piece, and the brackets of six piles
+-- the most bytes of a pile: a space and (pile), and at most three bytes for each piece
 abbrev pub longestPile : ℕ
 longestPile = 7 + 3 * mostItems
 
+-- the most bytes of a cut: a space and (cut), a space and () for each pile, and at most three bytes for each piece
 abbrev pub longestCut : ℕ
 longestCut = 6 + 3 * mostAgents + 3 * mostItems
 
@@ -26,7 +27,7 @@ longestCut = 6 + 3 * mostAgents + 3 * mostItems
 abbrev pub longestYard : ℕ
 longestYard = 27 + 2 * sumDigits + longestPile + longestCut
 
--- the most bytes of the cutters line: a round for each yard
+-- the most bytes of the cutters line: (cutters) and the line feed, and a space and a digit for each yard
 abbrev pub longestCutters : ℕ
 longestCutters = 10 + 2 * mostAgents
 

@@ -22,7 +22,7 @@ mod lines;
 // The most bytes of the head.
 const LONGEST_HEAD: usize = 43;
 
-// The most bytes of a pile, a cut and a yard line.
+// The most bytes of a pile, of a cut and of a yard line.
 const LONGEST_PILE: usize = 7 + 3 * Sheet::ITEMS;
 
 const LONGEST_CUT: usize = 6 + 3 * Sheet::AGENTS + 3 * Sheet::ITEMS;

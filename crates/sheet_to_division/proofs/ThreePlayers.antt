@@ -41,8 +41,8 @@ abbrev values : ℕ → List ℕ
 values i = allValues 12 (valuation (tableOf players) i)
 
 -- a partition for each player: by the rows, and by the labels α β γ and + - * of the document
-abbrev pub layouts : List (List ℕ)
-layouts =
+abbrev pub partitionsShown : List (List ℕ)
+partitionsShown =
     (1 ∷ 1 ∷ 1 ∷ 1 ∷ 2 ∷ 2 ∷ 2 ∷ 2 ∷ 3 ∷ 3 ∷ 3 ∷ 3 ∷ [])
     ∷ (1 ∷ 1 ∷ 2 ∷ 3 ∷ 1 ∷ 2 ∷ 3 ∷ 3 ∷ 1 ∷ 2 ∷ 2 ∷ 3 ∷ [])
     ∷ (1 ∷ 2 ∷ 1 ∷ 3 ∷ 2 ∷ 3 ∷ 1 ∷ 2 ∷ 3 ∷ 2 ∷ 3 ∷ 1 ∷ [])
@@ -52,7 +52,7 @@ layouts =
 pub three-players-totals : map (λ i. total (values i)) (range 1 3) ≡ replicate 3 (3 * 4055000)
 three-players-totals = refl
 
-pub three-players-bundles : map (λ i. map (λ c. bundleValue c (values i) (nth [] layouts i)) (range 1 3)) (range 1 3) ≡ replicate 3 (replicate 3 4055000)
+pub three-players-bundles : map (λ i. map (λ c. bundleValue c (values i) (nth [] partitionsShown i)) (range 1 3)) (range 1 3) ≡ replicate 3 (replicate 3 4055000)
 three-players-bundles = refl
 
 -- so that is each player's share
@@ -62,6 +62,6 @@ share-shown i l in-bundles each reached whole = maximinShare-of-total 3 (values 
 
 pub three-players-shares : map (shareOf 3 12 (tableOf players)) (range 1 3) ≡ replicate 3 4055000
 three-players-shares =
-    ap₂ _∷_ (share-shown 1 (nth [] layouts 1) refl refl refl refl)
-    (ap₂ _∷_ (share-shown 2 (nth [] layouts 2) refl refl refl refl)
-    (ap₂ _∷_ (share-shown 3 (nth [] layouts 3) refl refl refl refl) refl))
+    ap₂ _∷_ (share-shown 1 (nth [] partitionsShown 1) refl refl refl refl)
+    (ap₂ _∷_ (share-shown 2 (nth [] partitionsShown 2) refl refl refl refl)
+    (ap₂ _∷_ (share-shown 3 (nth [] partitionsShown 3) refl refl refl refl) refl))
