@@ -22,11 +22,13 @@ mod lines;
 // The most bytes of the head.
 const LONGEST_HEAD: usize = 43;
 
-// The most bytes of a pile, of a cut and of a yard line.
+// The most bytes of a pile.
 const LONGEST_PILE: usize = 7 + 3 * Sheet::ITEMS;
 
+// The most bytes of a cut.
 const LONGEST_CUT: usize = 6 + 3 * Sheet::AGENTS + 3 * Sheet::ITEMS;
 
+// The most bytes of the line of one agent.
 const LONGEST_YARD: usize = 27 + 2 * Sheet::SUM_DIGITS + LONGEST_PILE + LONGEST_CUT;
 
 // The most bytes of the line of the cutters.
