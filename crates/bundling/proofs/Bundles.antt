@@ -1,14 +1,14 @@
 -- Laws of the bundles of a partition, item after item. Assumes nothing.
 use mathlib.Core.Path.{_≡_, refl, ap, _∙_}
 use mathlib.Core.Bool.{Bool, true, false}
-use mathlib.Core.List.{List, [], _∷_, _++_, append-nil}
+use mathlib.Core.List.{List, [], _∷_, _++_, map, append-nil}
 use mathlib.Core.List.{Sublistᴰ as Sublist, Sublistᴰ·slnil as done, Sublistᴰ·cons as skip, Sublistᴰ·cons-cons as keep, Sublistᴰ·nil-sublist as nil-sublist}
 use Prim.Native.Nat.{ℕ, zero, suc, _+_, _≤_, _<_, min}
 use native.Mathlib.Omega.{arith}
 use lib.Dec.{eqb}
 use lib.ListN.{length, getD, take, length-take}
 use borrow.Author.Tests.{eq-eqb, ne-eqb}
-use Rattle.lists.specs.Lists.{consIf}
+use Rattle.lists.specs.Lists.{consIf, filter}
 use Rattle.lists.proofs.members.Counting.{consIf-append}
 use Rattle.lists.proofs.places.Passing.{take-next}
 use Rattle.bundling.specs.Bundles.{itemsIn, bundle}
@@ -18,6 +18,11 @@ itemsIn-sublist t [] l = done
 itemsIn-sublist t (k ∷ items) [] = nil-sublist (k ∷ items)
 itemsIn-sublist t (k ∷ items) (c ∷ l) = elim (t c) as (λ b. Sublist (consIf b k (itemsIn t items l)) (k ∷ items))
     [ true ↦ keep refl (itemsIn-sublist t items l) | false ↦ skip (itemsIn-sublist t items l) ]
+
+-- the items of the bundles that pass a test, where f names the bundle of each item
+pub itemsIn-map : (t : ℕ → Bool) (f : ℕ → ℕ) (items : List ℕ) → itemsIn t items (map f items) ≡ filter (λ k. t (f k)) items
+itemsIn-map t f [] = refl
+itemsIn-map t f (k ∷ items) = ap (consIf (t (f k)) k) (itemsIn-map t f items)
 
 -- one item more
 pub itemsIn-snoc : (t : ℕ → Bool) (ks : List ℕ) (k : ℕ) (l : List ℕ) → length ks < length l

@@ -8,8 +8,8 @@ use native.Mathlib.Omega.{arith}
 use lib.Dec.{leb}
 use lib.ListN.{length}
 use Rattle.lists.specs.Lists.{range}
-use Rattle.lists.proofs.ranges.Ranges.{in-range, range-bounds, length-range}
-use Rattle.lists.proofs.members.Counting.{sublist-mem, filter-all}
+use Rattle.lists.proofs.ranges.Ranges.{length-range}
+use Rattle.lists.proofs.members.Counting.{filter-all}
 use Rattle.sheet.specs.Limits.{mostItems, CountsWithin}
 use Rattle.sheet.specs.Answers.{refused, accepted}
 use Rattle.sheet.specs.Tables.{AgreeInUse}
@@ -23,7 +23,7 @@ use Rattle.division.specs.declared.Answer.the-variants.{Divided}
 use Rattle.division.specs.declared.Outcome.{Outcome}
 use Rattle.division.specs.Promise.{isDivided, isDivision, bundlesIn, allAgents, satisfiedAgents, Promised}
 use Rattle.rounds.proofs.density.Terms.{termsFor-allowed}
-use Rattle.rounds.proofs.Allocation.{length-allocation, allocation-sublist, holds-promised, item-in-one}
+use Rattle.rounds.proofs.Allocation.{length-allocation, allocation-sublist, holds-promised, allocation-allocates}
 use Rattle.rounds.proofs.Answers.{answer-cases, answer-within-limits}
 use Rattle.rounds.proofs.Theorems.{agreeing-tables-same-answer}
 use Rattle.division.proofs.Outcomes.{bundlesIn-divided}
@@ -46,12 +46,7 @@ module _ (n m : ℕ) (table : List (List ℕ)) where
 
   -- each item is in one bundle
   all-allocated : 1 ≤ n → Allocates n m bundles
-  all-allocated some =
-      record {
-        bundle-each = length-allocation n m (termsFor n) table;
-        item-in-one-bundle = λ k lo hi. item-in-one n m (termsFor n) table (termsFor-allowed n) some k (in-range 1 m k lo (omega arith));
-        no-other-item = λ bundle mem k mk. let b = range-bounds 1 m (sublist-mem (allocation-sublist n m (termsFor n) table bundle mem) mk) in (b .0, omega arith);
-      }
+  all-allocated = allocation-allocates n m (termsFor n) table (termsFor-allowed n)
 
   divided-bundles : m ≤ mostItems → bundlesIn n (outcome (accepted (divisionByRounds n m table))) ≡ bundles
   unfolding divisionOf

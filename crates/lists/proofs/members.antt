@@ -5,5 +5,7 @@ pub mod Congruence
 pub mod Distinct
 pub mod DistinctAppend
 pub mod Tests
+pub mod Only
 pub mod Maps
 pub mod FlatMap
+pub mod WithoutOne

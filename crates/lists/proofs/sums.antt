@@ -5,3 +5,4 @@ pub mod LeastOf
 pub mod GreatestOf
 pub mod Exchange
 pub mod Covering
+pub mod InOneList

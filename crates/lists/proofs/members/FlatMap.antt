@@ -1,6 +1,6 @@
--- Lists that are put together of parts: one part more, equal parts, and the length of the whole. Assumes nothing.
+-- Lists that are put together of parts: one part more, equal parts, parts under a map, and the length of the whole. Assumes nothing.
 use mathlib.Core.Path.{_≡_, refl, sym, ap, ap₂, _∙_}
-use mathlib.Core.List.{List, [], _∷_, _++_, append-nil, append-assoc, flatMap, List·Memᴰ as Mem, List·Memᴰ·head as here, List·Memᴰ·tail as there}
+use mathlib.Core.List.{List, [], _∷_, _++_, append-nil, append-assoc, map, flatMap, List·Memᴰ as Mem, List·Memᴰ·head as here, List·Memᴰ·tail as there}
 use Prim.Native.Nat.{ℕ, _+_, _≤_}
 use native.Mathlib.Omega.{arith}
 use lib.ListN.{length, length-append}
@@ -29,3 +29,8 @@ module _ {A : Type 0} (f : ℕ → List A) where
   unfolding flatMap
   length-flatMap-le w [] le = omega arith
   length-flatMap-le w (k ∷ ks) le = omega (arith, length-append (f k) (flatMap f ks), le k (here refl), length-flatMap-le w ks (λ j m. le j (there m)))
+
+pub flatMap-map : {A B C : Type 0} (f : B → List C) (g : A → B) (xs : List A) → flatMap f (map g xs) ≡ flatMap (λ x. f (g x)) xs
+unfolding flatMap
+flatMap-map f g [] = refl
+flatMap-map f g (x ∷ xs) = ap (λ t. f (g x) ++ t) (flatMap-map f g xs)

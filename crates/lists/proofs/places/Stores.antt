@@ -1,12 +1,29 @@
--- As many values stored as there are places, and lists in places under a map. Assumes nothing.
-use mathlib.Core.Path.{_≡_, refl, ap₂, _∙_}
-use mathlib.Core.List.{List, _∷_, map, map-append, append-nil}
-use Prim.Native.Nat.{ℕ, zero, suc, _+_, _-_, _≤_}
-use native.Mathlib.Nat.{zero-add}
+-- Values stored in places, one after the other or as many as there are places, and lists in places under a map. Assumes nothing.
+use mathlib.Core.Path.{_≡_, refl, sym, ap₂, subst, _∙_}
+use mathlib.Core.Logic.{⊎-elim}
+use mathlib.Core.List.{List, [], _∷_, map, map-append, append-nil}
+use Prim.Native.Nat.{ℕ, zero, suc, _+_, _-_, _≤_, _<_}
+use native.Mathlib.Nat.{zero-add, eq-or-lt-of-le}
 use native.Mathlib.Omega.{arith}
-use lib.ListN.{length, drop-of-length-le, replicate, length-map}
-use lib.Seq.{sets, sets-eq}
+use lib.ListN.{length, getD, drop-of-length-le, replicate, set as store, length-map}
+use lib.Seq.{sets, sets-eq, getD-set-same, getD-set-other}
 use Rattle.lists.specs.Lists.{padded}
+use Rattle.lists.specs.Sums.{total}
+
+module _ {A : Type 0} (P : ℕ → A → Type 0) (d : A) where
+  -- what holds in each place before place i holds in each up to it, once it holds of what is stored there
+  pub stored-each : (xs : List A) (i : ℕ) (v : A) → i < length xs → ((s : ℕ) → s < i → P s (getD xs s d)) → P i v → (s : ℕ) → s < i + 1 → P s (getD (store xs i v) s d)
+  stored-each xs i v room each here s lt =
+      ⊎-elim
+      (λ (e : s ≡ i). rw e (subst (P i) (sym (getD-set-same xs i v d room)) here))
+      (λ (below : s < i). subst (P s) (sym (getD-set-other xs i s v d (λ e. omega arith))) (each s below))
+      (eq-or-lt-of-le (omega arith))
+
+-- one number stored in the place of another
+pub total-store : (f : ℕ → ℕ) (xs : List ℕ) (i x : ℕ) → i < length xs → total (map f (store xs i x)) + f (getD xs i 0) ≡ total (map f xs) + f x
+total-store f [] i x lt = absurd (omega arith)
+total-store f (y ∷ xs) zero x lt = omega arith
+total-store f (y ∷ xs) (suc i) x lt = omega (arith, total-store f xs i x (omega arith))
 
 -- as many values as there are places
 pub sets-all : {A : Type 0} (old vs : List A) → length vs ≡ length old → sets old 0 vs ≡ vs

@@ -18,7 +18,7 @@ use Rattle.writing.specs.Fields.{group}
 use Rattle.sheet.specs.Limits.{mostAgents, mostItems, setBits}
 use Rattle.sheet.specs.Answers.{accepted}
 use Rattle.sheet.specs.Sets.{itemsOf, setOf}
-use Rattle.sheet.proofs.sets.Sets.{items-setOf}
+use Rattle.sheet.proofs.sets.Bundles.{nth-set-items}
 use Rattle.cut.specs.Outcome.{placed}
 use Rattle.rounds.specs.Division.{Division}
 use Rattle.shares.specs.declared.Cut.{Cut}
@@ -56,10 +56,7 @@ module _ (n m : ℕ) (table : List (List ℕ)) (d : Division) (few : m ≤ mostI
 
   -- its bundle
   nth-bundle : (i : ℕ) → Mem i (range 1 n) → itemsOf (nth 0 (padded mostAgents 0 (map setOf (d .bundles))) i) ≡ nth [] (d .bundles) i
-  nth-bundle i in-use =
-      let each : length (map setOf (d .bundles)) ≡ n = length-map (d .bundles) setOf ∙ p .bundle-each in
-      ap itemsOf (nth-padded mostAgents 0 0 (map setOf (d .bundles)) (rw each in-use) ∙ List·getD-map setOf (d .bundles) (i - 1) [])
-      ∙ items-setOf (nth [] (d .bundles) i) (sublist-trans (p .of-items i in-use) (range-sublist 1 m setBits (omega arith)))
+  nth-bundle i in-use = nth-set-items n (d .bundles) (p .bundle-each) in-use (sublist-trans (p .of-items i in-use) (range-sublist 1 m setBits (omega arith)))
 
   nth-share : (i : ℕ) → Mem i (range 1 n) → nth 0 (padded mostAgents 0 (d .shares)) i ≡ nth 0 (d .shares) i
   nth-share i in-use = nth-padded mostAgents 0 0 (d .shares) (rw (p .share-each) in-use)
