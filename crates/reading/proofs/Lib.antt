@@ -1,6 +1,6 @@
 -- Laws of the definitions: what is kept of marks and lines while they are read, how many are read, the table of an outcome, what
 -- follows reading, what an accepted text has, the samples by computation, that spaces, remarks and blank lines count for nothing, and that
--- wider limits of a mark refuse no text accepted before.
+-- wider limits of a mark refuse no text accepted before; and the sheet of the three players of document 000.
 pub mod kept
 pub mod Shape
 pub mod OutcomeTable
@@ -9,3 +9,4 @@ pub mod Samples
 pub mod Respaced
 pub mod Accepted
 pub mod WiderMarks
+pub mod ThreePlayers

@@ -4,3 +4,5 @@ pub mod Refusals
 pub mod Marks
 pub mod EachAgent
 pub mod Outcomes
+pub mod Shown
+pub mod ThreePlayers
