@@ -14,7 +14,7 @@ use division::divide;
 use sheet::Sheet;
 use sheet::Table;
 use writing::Answer;
-use writing::put_bytes;
+use writing::fill;
 
 mod cutters;
 mod lines;
@@ -52,11 +52,7 @@ fn print_outcome(
 {
     let mut text = [0u8; LONGEST];
     let length = put_division(&mut text, agents, items, table, grade, outcome);
-    if buffer.len() < length {
-        return Answer::Refused(10);
-    }
-    put_bytes(buffer, 0, &text[..length]);
-    Answer::Written(length)
+    fill(&text[..length], buffer)
 }
 
 // Divides a table of marks with these counts and prints the division from the front of the buffer. Refused as by `divide`, else with

@@ -4,7 +4,10 @@ ghost use mathlib.Core.Path.{_≡_};
 ghost use mathlib.Core.List.{[], _∷_, _++_};
 ghost use lib.ListN.{length};
 ghost use Rattle.text.specs.Decimal.{decimal, spacedNumber, spacedNumbers};
+ghost use Rattle.sheet.specs.Answers.{after};
+ghost use Rattle.writing.specs.Answered.{answered};
 ghost use Rattle.writing.specs.Fields.{group};
+ghost use Rattle.writing.specs.Filled.{filling, filled};
 ghost use Rattle.writing.specs.Output.{output, Written};
 
 // What an entry that fills a lent buffer answers: the number of the reason why nothing is written, or the length of the text.
@@ -97,4 +100,16 @@ pub fn put_group(buffer: &mut [u8], at: usize, numbers: &[u8]) -> usize
     let first = put_field(buffer, at, b"(", numbers[0] as u64);
     let last = put_spaced(buffer, first, &numbers[1..]);
     put(buffer, last, b')')
+}
+
+// A text from the front of a buffer; refused with 10 where the buffer is shorter than the text, and then the buffer keeps all its bytes.
+pub fn fill(text: &[u8], buffer: &mut [u8]) -> Answer
+    ensures answer { λ r. ⌜ r ≡ answered (filling (length (now (buffer .entry))) (now (text .entry))) ⌝ }
+    ensures buffer { λ _. ⌜ now (buffer .exit) ≡ after filled (filling (length (now (buffer .entry))) (now (text .entry))) (now (buffer .entry)) ⌝ }
+{
+    if buffer.len() < text.len() {
+        return Answer::Refused(10);
+    }
+    let length = put_bytes(buffer, 0, text);
+    Answer::Written(length)
 }
