@@ -1,0 +1,2 @@
+-- What the contracts of private functions cite.
+pub mod SetsText
