@@ -1,0 +1,55 @@
+-- What the answers of the search and of the whole say of the lent places. Assumes nothing.
+use mathlib.Core.Path.{_≡_, refl, sym, ap, _∙_}
+use mathlib.Core.Bool.{Bool, true, false}
+use mathlib.Core.List.{List}
+use Prim.Native.Nat.{ℕ}
+use lib.ListN.{length}
+use Rattle.sheet.specs.Answers.{Answer, refused, accepted, numberOf, after}
+use Rattle.writing.specs.declared.Answer as declared
+use Rattle.writing.proofs.Lent.{lent-refused, lent-written}
+use Rattle.exact_division.specs.Search.{searching}
+use Rattle.exact_search.specs.Outcome.{Searched}
+use Rattle.exact_search.specs.declared.Answer.the-variants.{Refused, None, Found}
+use Rattle.exact_search.specs.declared.Outcome.{Outcome}
+use Rattle.exact_search.proofs.Outcomes.{refused-answered, none-answered, none-sets, found-answered, found-sets}
+use Rattle.sheet_to_exact.specs.Showing.{exactFrom, Shown}
+use Rattle.exact_c.specs.Lent.{storeFound, storeBundles, TableStored, TextStored}
+
+module _ {n m : ℕ} {table : List (List ℕ)} {o : Outcome} (s : Searched n m table o) {oldFound : ℕ} {oldBundles : List ℕ} where
+  -- where the search answers a, what a says is stored
+  stored-of : (a : Answer Bool) → searching n m table ≡ a → {newFound : ℕ} {newBundles : List ℕ}
+      → newFound ≡ after storeFound a oldFound → newBundles ≡ after (storeBundles (s .bundles)) a oldBundles
+      → TableStored n m table oldFound oldBundles (numberOf a) newFound newBundles
+  stored-of a e found sets =
+      record {
+        bundles = s .bundles;
+        may-show = s .may-show;
+        answered = ap numberOf (sym e);
+        found-stored = found ∙ ap (λ b. after storeFound b oldFound) (sym e);
+        bundles-stored = sets ∙ ap (λ b. after (storeBundles (s .bundles)) b oldBundles) (sym e);
+      }
+
+  -- a refused table answers its number, and the places keep their content
+  pub refusal-stored : (number : ℕ) → o .answer ≡ Refused number → TableStored n m table oldFound oldBundles number oldFound oldBundles
+  refusal-stored number e = stored-of (refused number) (refused-answered s number e) refl refl
+
+  -- none answers 0, and zeros are stored
+  pub none-stored : o .answer ≡ None → TableStored n m table oldFound oldBundles 0 0 (o .bundles)
+  none-stored e = stored-of (accepted false) (none-answered s e) refl (none-sets s e)
+
+  -- an exact division answers 0, and 1 and its sets are stored
+  pub found-stored : o .answer ≡ Found → TableStored n m table oldFound oldBundles 0 1 (o .bundles)
+  found-stored e = stored-of (accepted true) (found-answered s e) refl (found-sets s e)
+
+module _ {text old new : List ℕ} {r : declared.Answer} (s : Shown text old r new) {oldLength : ℕ} where
+  -- a refusal answers its number, and the length keeps its content
+  pub refusal-text-stored : (number : ℕ) → r ≡ declared.the-variants.Refused number → TextStored text old oldLength number new oldLength
+  refusal-text-stored number e =
+      let told = lent-refused (exactFrom text (s .bundles) (length old)) number oldLength (sym (s .answer) ∙ e) in
+      record { bundles = s .bundles; may-show = s .may-show; answered = told .0; buffer = s .buffer; length-stored = told .1 }
+
+  -- a text answers 0, and its length is stored
+  pub written-text-stored : (written : ℕ) → r ≡ declared.the-variants.Written written → TextStored text old oldLength 0 new written
+  written-text-stored written e =
+      let told = lent-written (exactFrom text (s .bundles) (length old)) written oldLength (sym (s .answer) ∙ e) in
+      record { bundles = s .bundles; may-show = s .may-show; answered = told .0; buffer = s .buffer; length-stored = told .1 }
