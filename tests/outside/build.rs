@@ -1,10 +1,11 @@
 //! Tells the linker where the libraries stand; only the programs that compare need them.
 
-const LIBRARIES: [(&str, &str); 4] = [
+const LIBRARIES: [(&str, &str); 5] = [
     ("COMPARE", "libshareout_c.a"),
     ("CUTS", "libcut_c.a"),
     ("DIVISIONS", "libdivision_c.a"),
     ("STRICT", "libstrict_c.a"),
+    ("EXACT", "libexact_c.a"),
 ];
 
 fn main() {

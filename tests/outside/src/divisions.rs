@@ -44,11 +44,23 @@ pub fn run(entry: Entry) -> Result<(), String> {
 
 fn check(entry: Entry, met: &mut Met, sheet: &Sheet) -> Result<(), String> {
     let division = met.divide(sheet)?;
+    call(entry, &table_of(sheet), sheet.yards, sheet.pieces, due(&division))
+}
+
+/// The table of a sheet as it is handed over.
+pub fn table_of(sheet: &Sheet) -> Table {
     let mut table = [[OUTSIDE; MOST_PIECES]; MOST_YARDS];
     for (places, row) in table.iter_mut().zip(&sheet.marks) {
         places.iter_mut().zip(row).for_each(|(place, mark)| *place = handed_over(*mark));
     }
-    call(entry, &table, sheet.yards, sheet.pieces, due(&division))
+    table
+}
+
+/// The sheet of these counts in a table.
+#[cfg(test)]
+pub fn sheet_of(table: &Table, yards: usize, pieces: usize) -> Sheet {
+    let rows = table[..yards].iter().map(|row| row[..pieces].iter());
+    Sheet::of(rows.map(|row| row.map(|mark| u64::from(*mark)).collect()).collect())
 }
 
 /// Every pair of counts out of range: 4 before 5, and nothing is stored.

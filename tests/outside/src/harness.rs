@@ -34,7 +34,7 @@ struct Answer {
 }
 
 /// What is printed of the greatest sheet is shorter than this.
-const LARGE_BUFFER: usize = 2_048;
+pub const LARGE_BUFFER: usize = 2_048;
 const MARGIN: usize = 64;
 /// What the lent length holds before a call: no printed text is as long.
 const UNPRINTED_LENGTH: usize = 7_777_777;
@@ -75,7 +75,13 @@ pub struct Harness<'a, S> {
 
 impl<'a, S: Solver + Default> Harness<'a, S> {
     pub fn new(entry: Entry<'a>) -> Harness<'a, S> {
-        Harness { entry, solver: S::default(), counts: Counts::default() }
+        Harness::with(entry, S::default())
+    }
+}
+
+impl<'a, S: Solver> Harness<'a, S> {
+    pub fn with(entry: Entry<'a>, solver: S) -> Harness<'a, S> {
+        Harness { entry, solver, counts: Counts::default() }
     }
 
     /// Runs one text and gives what was due; an error shows the text with what was due and what came.

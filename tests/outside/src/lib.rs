@@ -1,12 +1,13 @@
-//! A solver for document 01, with orders 1 to 3 of document 02, that shares no code with the library it is
-//! held against, reads by rewriting lines, and finds shares, cuts, waiting sets and servings by other
-//! methods.
+//! A solver for document 01, with orders 1 to 4 of document 02, that shares no code with the library it is
+//! held against, reads by rewriting lines, and finds shares, cuts, waiting sets, servings and exact
+//! divisions by other methods.
 //! Yards (agents) and pieces (items) are counted from 0 inside, and from 1 in texts.
 
 pub mod cuts;
 pub mod damage;
 pub mod division;
 pub mod divisions;
+pub mod exact;
 pub mod families;
 pub mod generator;
 pub mod grades;

@@ -23,7 +23,7 @@ fn buffers(number: usize, several: usize) -> Buffers {
 }
 
 /// Runs each text; one in so many with several buffers.
-pub fn texts<S: Solver + Default>(
+pub fn texts<S: Solver>(
     harness: &mut Harness<S>,
     texts: impl Iterator<Item = Vec<u8>>,
     several: usize,
@@ -36,7 +36,7 @@ pub fn texts<S: Solver + Default>(
 }
 
 /// The samples of document 01, the typed ones, and the text without a byte.
-pub fn samples<S: Solver + Default>(harness: &mut Harness<S>) -> Passed {
+pub fn samples<S: Solver>(harness: &mut Harness<S>) -> Passed {
     let sheets = SHEETS.iter().map(|(_, text, _)| text.as_bytes().to_vec());
     let typed = TYPED.iter().map(|(_, text, _)| text.as_bytes().to_vec());
     let of_j = texts_of_j().into_iter().map(|(text, _)| text);
@@ -44,7 +44,7 @@ pub fn samples<S: Solver + Default>(harness: &mut Harness<S>) -> Passed {
 }
 
 /// The strict texts of the sheets.
-pub fn sheets<S: Solver + Default>(
+pub fn sheets<S: Solver>(
     harness: &mut Harness<S>,
     sheets: impl Iterator<Item = Sheet>,
     several: usize,
@@ -53,16 +53,12 @@ pub fn sheets<S: Solver + Default>(
 }
 
 /// Every text that is one byte away from this one.
-pub fn one_byte_away<S: Solver + Default>(harness: &mut Harness<S>, text: &str) -> Passed {
+pub fn one_byte_away<S: Solver>(harness: &mut Harness<S>, text: &str) -> Passed {
     texts(harness, damage::one_byte_away(text.as_bytes()), SEVERAL_BUFFERS)
 }
 
 /// Texts of one kind of damage.
-pub fn damaged<S: Solver + Default>(
-    harness: &mut Harness<S>,
-    kind: usize,
-    number: usize,
-) -> Passed {
+pub fn damaged<S: Solver>(harness: &mut Harness<S>, kind: usize, number: usize) -> Passed {
     let mut generator = Generator::new(1_000 + kind as u64);
     let damaged = (0..number).map(|_| {
         let text = strict_text(&any(&mut generator));
@@ -73,7 +69,7 @@ pub fn damaged<S: Solver + Default>(
 
 /// Texts of one kind of typing, counted under its name where it altered the text; each must come to
 /// what its kind says.
-pub fn typed<S: Solver + Default>(harness: &mut Harness<S>, kind: usize, number: usize) -> Passed {
+pub fn typed<S: Solver>(harness: &mut Harness<S>, kind: usize, number: usize) -> Passed {
     let (name, outcome, make) = typed::KINDS[kind];
     let mut generator = Generator::new(2_000 + kind as u64);
     for number in 0..number {

@@ -83,23 +83,13 @@ fn text_of_ones(yards: usize, pieces: usize, first: &str) -> Vec<u8> {
 #[cfg(test)]
 mod tests {
     use super::TYPED;
+    use crate::exact::players::{players, OF_THE_PAPER};
     use crate::reader::read;
 
-    /// "10^6 B + 10^3 O + E", where B is 1 everywhere: O and the three E of document 000, section 2, row by row.
     #[test]
     fn the_three_players_are_those_of_document_000() {
-        let oscillation = [17, 25, 12, 1, 2, 22, 3, 28, 11, 0, 21, 23];
-        let epsilon = [
-            [3, -1, -1, -1, 0, 0, 0, 0, 0, 0, 0, 0],
-            [3, -1, 0, 0, -1, 0, 0, 0, -1, 0, 0, 0],
-            [3, 0, -1, 0, 0, 0, -1, 0, 0, 0, 0, -1],
-        ];
-        let mark = |player: usize, piece: usize| {
-            (1_000_000 + 1_000 * oscillation[piece] + epsilon[player][piece]) as u64
-        };
-        let row = |player| (0..12).map(|piece| mark(player, piece)).collect();
-        let players: Vec<Vec<u64>> = (0..3).map(row).collect();
-        assert_eq!(read(sample!("three_players").as_bytes()).unwrap().marks, players);
+        let sheet = read(sample!("three_players").as_bytes()).unwrap();
+        assert_eq!(sheet.marks, players(OF_THE_PAPER));
     }
 
     #[test]

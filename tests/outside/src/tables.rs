@@ -20,13 +20,16 @@ pub fn random() -> impl Iterator<Item = (&'static str, Vec<Sheet>)> {
 /// Every table of up to three yards, three pieces and marks 0 to 2.
 pub fn all_small() -> impl Iterator<Item = Sheet> {
     let counts = (1..=3).flat_map(|yards| (1..=3).map(move |pieces| (yards, pieces)));
-    counts.flat_map(|(yards, pieces)| {
-        let places = (yards * pieces) as u32;
-        (0..3usize.pow(places)).map(move |number| {
-            let mark = |place: usize| (number / 3usize.pow(place as u32) % 3) as u64;
-            let row = |yard: usize| (0..pieces).map(|piece| mark(yard * pieces + piece)).collect();
-            Sheet::of((0..yards).map(row).collect())
-        })
+    counts.flat_map(|(yards, pieces)| all_of(yards, pieces, 3))
+}
+
+/// Every table of these counts with so many distinct marks, from 0.
+pub fn all_of(yards: usize, pieces: usize, distinct: usize) -> impl Iterator<Item = Sheet> {
+    let places = (yards * pieces) as u32;
+    (0..distinct.pow(places)).map(move |number| {
+        let mark = |place: usize| (number / distinct.pow(place as u32) % distinct) as u64;
+        let row = |yard: usize| (0..pieces).map(|piece| mark(yard * pieces + piece)).collect();
+        Sheet::of((0..yards).map(row).collect())
     })
 }
 

@@ -2,23 +2,17 @@
 
 mod narrow;
 
-use super::{check, check_counts, due, Answer, Cutters, Entry, Piles, Table, LENT};
+use super::{check, check_counts, due, sheet_of, Answer, Cutters, Entry, Piles, Table, LENT};
 use crate::division::divide;
 use crate::grades::{self, tests_before_order_2};
 use crate::met::Met;
-use crate::reader::{read, Sheet};
+use crate::reader::read;
 use crate::samples::SHEETS;
 
 fn passes(entry: Entry) -> bool {
     let sheets = SHEETS.map(|(name, text, _)| read(text.as_bytes()).expect(name));
     let mut met = Met::default();
     sheets.iter().all(|sheet| check(entry, &mut met, sheet).is_ok()) && check_counts(entry).is_ok()
-}
-
-/// The sheet of these counts in a table.
-fn sheet_of(table: &Table, yards: usize, pieces: usize) -> Sheet {
-    let rows = table[..yards].iter().map(|row| row[..pieces].iter());
-    Sheet::of(rows.map(|row| row.map(|mark| u64::from(*mark)).collect()).collect())
 }
 
 /// The solver's answer, as the library should give it.

@@ -1,8 +1,8 @@
 //! Divisions by marks, shares and worths that are kept in too few bits.
 
-use super::{sheet_of, Entry};
+use super::Entry;
 use crate::division::{divide, divide_by, worth, Division};
-use crate::divisions::{check, due};
+use crate::divisions::{check, due, sheet_of};
 use crate::families::FAMILIES;
 use crate::grades::{grade, tests};
 use crate::met::Met;
