@@ -48,6 +48,6 @@ fn microseconds<Input: Debug, Answer: Debug + PartialEq, const FUNCTIONS: usize>
             assert_eq!(timed[0].answers[number], other.answers[number], "{input:?}");
         }
     }
-    let sum = |k: usize| timed[k * PLACES..][..PLACES].iter().map(|t| t.microseconds).sum::<f64>();
+    let sum = |k: usize| timed[k * PLACES..][..PLACES].iter().map(|t| t.mean()).sum::<f64>();
     std::array::from_fn(|k| sum(k) / PLACES as f64)
 }

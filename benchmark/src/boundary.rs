@@ -3,6 +3,8 @@
 mod cutting;
 #[cfg(feature = "division")]
 mod dividing;
+#[cfg(feature = "exact")]
+mod searching;
 #[cfg(feature = "earlier")]
 mod writing;
 
@@ -13,5 +15,7 @@ pub use cutting::CutRow;
 pub use dividing::divide;
 #[cfg(feature = "earlier")]
 pub use dividing::DivideTable;
+#[cfg(feature = "exact")]
+pub use searching::search;
 #[cfg(feature = "earlier")]
 pub use writing::{write, WriteText, Written};

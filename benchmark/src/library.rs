@@ -4,6 +4,8 @@ use crate::boundary;
 use crate::cut::{Cut, Mark, Row};
 #[cfg(feature = "division")]
 use crate::division::{Division, Table};
+#[cfg(feature = "exact")]
+use crate::exact::{Bundles, Instance};
 
 #[link(name = "cut_c", kind = "static")]
 extern "C" {
@@ -40,4 +42,23 @@ extern "C" {
 pub fn divide(table: &Table) -> Division {
     // SAFETY: the entry divides a table of 72 marks.
     unsafe { boundary::divide(divide_table, table) }
+}
+
+#[cfg(feature = "exact")]
+#[link(name = "exact_c", kind = "static")]
+extern "C" {
+    fn exact_table(
+        marks: *const Mark,
+        agents: usize,
+        items: usize,
+        found: *mut u8,
+        bundles: *mut u16,
+    ) -> u8;
+}
+
+/// Searches a table for an exact division.
+#[cfg(feature = "exact")]
+pub fn search(instance: &Instance) -> Option<Bundles> {
+    // SAFETY: the entry searches a table of 72 marks.
+    unsafe { boundary::search(exact_table, instance) }
 }
