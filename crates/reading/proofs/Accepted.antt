@@ -7,9 +7,10 @@ use Prim.Native.Nat.{ℕ}
 use lib.ListN.{length}
 use lib.Dec.{leb, ltb}
 use Rattle.lists.specs.Lists.{all}
-use Rattle.sheet.specs.Limits.{MarkLimits, longestText, mostAgents, mostItems, markLimits, within}
+use Rattle.sheet.specs.Limits.{MarkLimits, longestText, mostAgents, mostItems, markLimits, within, CountsWithin}
 use Rattle.sheet.specs.Answers.{accepted}
 use Rattle.sheet.proofs.Accepted.{required, requiredSome}
+use Rattle.sheet.proofs.Limits.{within-bounds}
 use Rattle.lexing.specs.Tokens.{Token, tokens}
 use Rattle.reading.specs.Grammar.{head, yardLines, endLine}
 use Rattle.reading.specs.Reading.{Contents, allowedRow, tableOf, readingWithin, reading}
@@ -68,3 +69,11 @@ module _ (limits : MarkLimits) (text : List ℕ) (c : Contents) where
 pub accepted-text : (text : List ℕ) (c : Contents) → reading text ≡ accepted c → AcceptedText markLimits text c
 unfolding reading
 accepted-text = accepted-passes markLimits
+
+-- its counts are within the limits
+pub accepted-counts : (text : List ℕ) (c : Contents) → reading text ≡ accepted c → CountsWithin (c .agents) (c .items)
+accepted-counts text c read =
+    let told = accepted-text text c read in
+    let agents = within-bounds mostAgents (c .agents) (told .agents-within) in
+    let items = within-bounds mostItems (c .items) (told .items-within) in
+    record { some = agents .0; few = agents .1; some-items = items .0; few-items = items .1 }

@@ -1,10 +1,10 @@
--- What an accepted answer says of the tests on its way: each of them was passed. Assumes nothing.
+-- What an accepted answer says of the tests on its way: each of them was passed; and an answer that nothing follows. Assumes nothing.
 use mathlib.Core.Path.{_≡_, refl}
 use mathlib.Core.Bool.{Bool, true, false}
 use mathlib.Core.Option.{Option, none, some}
 use Prim.Native.Nat.{ℕ}
 use native.Mathlib.Omega.{arith}
-use Rattle.sheet.specs.Answers.{Answer, refused, accepted, require, requireSome}
+use Rattle.sheet.specs.Answers.{Answer, refused, accepted, require, andThen, requireSome}
 
 module _ {B : Type 0} (b : B) where
   pub refused-not-accepted : (n : ℕ) → refused n ≡ accepted b → ⊥
@@ -19,3 +19,8 @@ module _ {B : Type 0} (b : B) where
       → (a : A) × (o ≡ some a) × (next a ≡ accepted b)
   requiredSome n none next e = absurd (refused-not-accepted n e)
   requiredSome n (some a) next e = (a, refl, e)
+
+-- nothing follows
+pub andThen-accepted : {A : Type 0} (a : Answer A) → andThen a accepted ≡ a
+andThen-accepted (refused number) = refl
+andThen-accepted (accepted result) = refl

@@ -12,9 +12,8 @@ use Rattle.sheet.specs.Limits.{mostAgents, mostItems, greatestMark, blankRow}
 use Rattle.sheet.specs.Answers.{accepted, andThen}
 use Rattle.sheet.specs.Valuations.{itemValue}
 use Rattle.sheet.specs.Tables.{valuation}
-use Rattle.sheet.proofs.Limits.{within-bounds}
 use Rattle.reading.specs.Reading.{Contents, reading, allowed, allowedRow, tableOf}
-use Rattle.reading.proofs.Accepted.{accepted-text}
+use Rattle.reading.proofs.Accepted.{accepted-text, accepted-counts}
 use Rattle.rounds.specs.Division.{divisionByRounds}
 use Rattle.printing.specs.Printed.{printed}
 use Rattle.printing.specs.Printing.{longestPrinted, printing}
@@ -54,9 +53,7 @@ pub accepted-printed : (s : List ℕ) (room : ℕ) (sheet : Contents) → readin
 unfolding shareOut
 accepted-printed s room sheet read enough =
     let told = accepted-text s sheet read in
-    let agents = within-bounds mostAgents (sheet .agents) (told .agents-within) in
-    let items = within-bounds mostItems (sheet .items) (told .items-within) in
     ap (λ a. andThen a (λ c. printing (c .agents) (c .items) (c .table) room)) read
     ∙ printing-within-limits (sheet .agents) (sheet .items) (sheet .table) room
-    (record { some = agents .0; few = agents .1; some-items = items .0; few-items = items .1 })
+    (accepted-counts s sheet read)
     (small (told .rows) (sheet .table) (told .table-is) (told .marks-allowed)) enough

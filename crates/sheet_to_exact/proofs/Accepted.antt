@@ -2,11 +2,9 @@
 use mathlib.Core.Path.{_≡_, ap, _∙_}
 use mathlib.Core.List.{List}
 use Prim.Native.Nat.{ℕ, _≤_}
-use Rattle.sheet.specs.Limits.{mostAgents, mostItems, CountsWithin}
 use Rattle.sheet.specs.Answers.{accepted, andThen}
-use Rattle.sheet.proofs.Limits.{within-bounds}
 use Rattle.reading.specs.Reading.{Contents, reading}
-use Rattle.reading.proofs.Accepted.{accepted-text}
+use Rattle.reading.proofs.Accepted.{accepted-counts}
 use Rattle.exact_division.specs.Exact.{exactExists}
 use Rattle.exact_printing.specs.ExactText.{exactText}
 use Rattle.exact_printing.specs.Printing.{longestExact, printingExact}
@@ -14,17 +12,10 @@ use Rattle.exact_printing.proofs.Longest.{printingExact-within-limits}
 use Rattle.sheet_to_exact.specs.Showing.{exactFrom, MayShowFor}
 
 module _ (text : List ℕ) (sheet : Contents) (read : reading text ≡ accepted sheet) where
-  counts-within : CountsWithin (sheet .agents) (sheet .items)
-  counts-within =
-      let told = accepted-text text sheet read in
-      let agents = within-bounds mostAgents (sheet .agents) (told .agents-within) in
-      let items = within-bounds mostItems (sheet .items) (told .items-within) in
-      record { some = agents .0; few = agents .1; some-items = items .0; few-items = items .1 }
-
   -- every accepted text gets its answer, an exact division or none: it is never refused with a buffer of `longestExact` bytes
   pub accepted-shown : (bundles : List (List ℕ)) (room : ℕ) → MayShowFor text bundles → longestExact ≤ room
       → exactFrom text bundles room ≡ accepted (exactText (exactExists (sheet .agents) (sheet .items) (sheet .table)) bundles)
   unfolding exactFrom
   accepted-shown bundles room shown enough =
       ap (λ a. andThen a (λ c. printingExact (c .agents) (c .items) (c .table) bundles room)) read
-      ∙ printingExact-within-limits (sheet .agents) (sheet .items) (sheet .table) bundles (shown sheet read) room enough counts-within
+      ∙ printingExact-within-limits (sheet .agents) (sheet .items) (sheet .table) bundles (shown sheet read) room enough (accepted-counts text sheet read)

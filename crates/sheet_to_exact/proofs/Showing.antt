@@ -1,5 +1,5 @@
 -- How each answer of reading is shown. Assumes nothing.
-use mathlib.Core.Path.{_≡_, refl, sym, ap, subst, _∙_}
+use mathlib.Core.Path.{_≡_, sym, ap, subst, _∙_}
 use mathlib.Core.List.{List, []}
 use Prim.Native.Nat.{ℕ}
 use lib.ListN.{length}
@@ -43,8 +43,3 @@ module _ (text : List ℕ) where
         answer = p .answer ∙ ap answered told;
         buffer = p .buffer ∙ ap (λ q. after filled q old) told;
       }
-
--- what is read, and nothing follows
-pub andThen-accepted : {A : Type 0} (a : Answer A) → andThen a accepted ≡ a
-andThen-accepted (refused number) = refl
-andThen-accepted (accepted result) = refl

@@ -1,9 +1,10 @@
 -- `show_exact` meets its contract, by what reading and printing ensure and the case of reading's answer. Assumes nothing.
 use mathlib.Core.Path.{sym, _∙_}
 use Rattle.sheet.specs.Answers.{accepted}
+use Rattle.sheet.proofs.Accepted.{andThen-accepted}
 use Rattle.reading.specs.Reading.{reading}
 use Rattle.reading.proofs.Composed.{refused-read, accepted-read}
-use Rattle.sheet_to_exact.proofs.Showing.{andThen-accepted, refusal-shown, printed-shown}
+use Rattle.sheet_to_exact.proofs.Showing.{refusal-shown, printed-shown}
 use borrow.Author.Needs.{needs}
 use Rattle.sheet_to_exact.proofs.show_exact.Statement.{statement}
 use Rattle.sheet_to_exact.proofs.show_exact.Tie as tie
