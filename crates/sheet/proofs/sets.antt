@@ -6,3 +6,4 @@ pub mod SetOf
 pub mod Remainders
 pub mod AllItems
 pub mod Bundles
+pub mod Members

@@ -1,7 +1,8 @@
 -- What holds of each entry of a list, as a test and as a type. Assumes nothing.
-use mathlib.Core.Path.{_≡_, refl}
+use mathlib.Core.Path.{_≡_, refl, sym, subst}
 use mathlib.Core.Bool.{Bool, true, and-eq-true-iff}
-use mathlib.Core.List.{List, [], _∷_, _++_, map}
+use mathlib.Core.Logic.{⊎-elim}
+use mathlib.Core.List.{List, [], _∷_, _++_, map, List·Memᴰ as Mem, List·Memᴰ·cases-cons as cases-cons, List·Memᴰ·not-nil as not-nil}
 use Prim.Native.Nat.{ℕ, zero, suc}
 use lib.ListN.{length, take, replicate}
 use Rattle.lists.specs.Lists.{all}
@@ -44,3 +45,8 @@ each-map P Q f step (x ∷ xs) h = (step x (h .0), each-map P Q f step xs (h .1)
 -- each of the rows has so many places
 abbrev pub AllOfLength : ℕ → List (List ℕ) → Type 0
 AllOfLength n rows = Each (λ row. length row ≡ n) rows
+
+-- what holds of each member holds of one
+pub each-mem : {A : Type 0} (P : A → Type 0) (xs : List A) → Each P xs → {x : A} → Mem x xs → P x
+each-mem P [] e m = absurd (not-nil m)
+each-mem P (y ∷ ys) e {x} m = ⊎-elim (λ (same : x ≡ y). subst P (sym same) (e .0)) (λ later. each-mem P ys (e .1) later) (cases-cons m)
