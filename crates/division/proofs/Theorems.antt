@@ -16,7 +16,7 @@ use Rattle.sheet.specs.Tables.{AgreeInUse}
 use Rattle.sheet.specs.Allocations.{Allocates}
 use Rattle.grading.specs.Scale.{passes, gradeByTable}
 use Rattle.grading.proofs.Scale.{passes-from-grade}
-use Rattle.rounds.specs.Terms.{termsFor}
+use Rattle.margins.specs.Terms.{termsFor}
 use Rattle.rounds.specs.Division.{standardInstance, allocation, divisionOf, divisionByRounds, answer}
 use Rattle.division.specs.Outcome.{outcome}
 use Rattle.division.specs.declared.Answer.the-variants.{Divided}
@@ -25,6 +25,7 @@ use Rattle.division.specs.Promise.{isDivided, isDivision, bundlesIn, all
 use Rattle.rounds.proofs.density.Terms.{termsFor-allowed}
 use Rattle.rounds.proofs.Allocation.{length-allocation, allocation-sublist, holds-promised, allocation-allocates}
 use Rattle.rounds.proofs.Answers.{answer-cases, answer-within-limits}
+use Rattle.rounds.proofs.Graded.{never-graded-5}
 use Rattle.rounds.proofs.Theorems.{agreeing-tables-same-answer}
 use Rattle.division.proofs.Outcomes.{bundlesIn-divided}
 
@@ -90,6 +91,19 @@ module _ (n m : ℕ) (table : List (List ℕ)) where
           (passes-from-grade n m table bundles (all-allocated (d .1 .some)) h some ∙ ap (λ k. leb k h) grade-is)
 
       of-refused : (number : ℕ) × (answer n m table ≡ refused number) → passes n m table (bundlesIn n answered) h ≡ leb g h
+      of-refused r = absurd (false≢true (ap isDivided (sym (ap (λ a. outcome a .answer) (r .1)) ∙ is-g)))
+
+  -- a division that is answered is graded 1, 2, 3 or 4: "5 is the rest", and demand 3 leaves none of the box's divisions there
+  pub divided-never-5 : (g : ℕ) → answered .answer ≡ Divided g → g ≤ 4
+  divided-never-5 g is-g = ⊎-elim of-divided of-refused (answer-cases n m table)
+    where
+      of-divided : (answer n m table ≡ accepted (divisionByRounds n m table)) × CountsWithin n m → g ≤ 4
+      of-divided d =
+          let same : Divided (divisionByRounds n m table .grade) ≡ Divided g = sym (ap (λ a. outcome a .answer) (d .0)) ∙ is-g in
+          let grade-is : divisionByRounds n m table .grade ≡ g = cc in
+          rw (← grade-is) (never-graded-5 n m table (divisionByRounds n m table) (d .0))
+
+      of-refused : (number : ℕ) × (answer n m table ≡ refused number) → g ≤ 4
       of-refused r = absurd (false≢true (ap isDivided (sym (ap (λ a. outcome a .answer) (r .1)) ∙ is-g)))
 
   -- "a grade 1 division passes the tests for 2 and 3"

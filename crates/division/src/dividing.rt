@@ -12,7 +12,7 @@ use crate::handing::store;
 use crate::settling::settle_round;
 use cut::Partition;
 use cut::cut;
-use rounds::Terms;
+use margins::Terms;
 use sheet::Sets;
 use sheet::Sheet;
 use sheet::Table;

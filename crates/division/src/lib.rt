@@ -7,8 +7,10 @@ ghost use Rattle.division.specs.Promise.{Promised};
 ghost use Rattle.division.specs.internal.Shared.{IsShared};
 use crate::dividing::Allocation;
 use crate::dividing::divide_left;
-use crate::terms::terms_for;
 use grading::grade_of;
+use grading::worths_of;
+use margins::margins_of;
+use margins::terms_for;
 use shares::Cut;
 use shares::share_each;
 use sheet::Sets;
@@ -21,7 +23,6 @@ mod dividing;
 mod handing;
 mod settling;
 mod suiting;
-mod terms;
 
 // The number of the reason why the table is refused, or the grade of its division.
 pub enum Answer {
@@ -80,7 +81,9 @@ fn divide_shared(table: Table, agents: usize, items: usize, own: shares::Outcome
     );
     let bundles = allocation.bundles;
     let cutters = allocation.cutters;
-    let grade = grade_of(table, agents, items, shares, bundles);
+    let worths = worths_of(table, agents, items, bundles);
+    let margins = margins_of(agents, worths, shares);
+    let grade = grade_of(table, agents, items, shares, margins, bundles);
     Outcome {
         answer: Answer::Divided(grade),
         bundles,

@@ -13,7 +13,7 @@ use crate::handing::left_of;
 use crate::suiting::suits_table;
 use bundling::bundle_sets;
 use cut::Partition;
-use rounds::Terms;
+use margins::Terms;
 use serving::serve;
 use sheet::Sets;
 use sheet::Table;

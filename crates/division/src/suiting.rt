@@ -4,7 +4,7 @@ ghost use Prim.Native.Nat.{_≤_};
 ghost use Rattle.sheet.specs.Limits.{greatestSum};
 ghost use Rattle.sheet.specs.Amounts.{SmallAmounts};
 ghost use Rattle.division.specs.internal.Suiting.{SmallTerms, setSuits, suitsRow, suitsTable};
-use rounds::Terms;
+use margins::Terms;
 use serving::Suits;
 use sheet::Row;
 use sheet::Sets;

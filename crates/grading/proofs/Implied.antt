@@ -1,9 +1,10 @@
--- No envy implies even, and even implies the whole share: for every table, n agents (yards), m items (pieces) and any marks. Assumes nothing.
+-- No envy implies even, even implies the whole share, and the whole share implies that no margin is below zero: for every table, n agents
+-- (yards), m items (pieces) and any marks. Assumes nothing.
 use mathlib.Core.Path.{_≡_, ap, _∙_}
 use mathlib.Core.Bool.{true}
 use mathlib.Core.List.{List, [], map, map-map, List·Memᴰ as Mem}
 use Prim.Native.Nat.{ℕ, _*_, _≤_}
-use native.Mathlib.Nat.{le-of-mul-le-mul-left}
+use native.Mathlib.Nat.{mul-le-mul, le-of-mul-le-mul-left}
 use native.Mathlib.Omega.{arith}
 use lib.ListN.{length, length-map}
 use borrow.Author.Tests.{le-leb, leb-true}
@@ -19,8 +20,12 @@ use Rattle.sheet.specs.Allocations.{Allocates}
 use Rattle.sheet.proofs.valuing.Tables.{valuation-profile}
 use Rattle.cut.proofs.Laws.{shares-le-total}
 use Rattle.shares.proofs.Profile.{nth-shares}
-use Rattle.grading.specs.Grade.{valueTo, envyFree, proportional, maximinFair}
+use Rattle.margins.specs.Terms.{termsFor}
+use Rattle.margins.specs.Margins.{marginsOf, noneNegative}
+use Rattle.margins.proofs.TermsFor.{top-le-bottom}
+use Rattle.grading.specs.Grade.{ownValues, valueTo, envyFree, proportional, maximinFair}
 use Rattle.grading.specs.Scale.{sharesOf}
+use Rattle.grading.proofs.NoneNegative.{noneNegative-own}
 
 module _ (n m : ℕ) (table bundles : List (List ℕ)) where
   -- the marks in use
@@ -72,3 +77,11 @@ module _ (n m : ℕ) (table bundles : List (List ℕ)) where
             leb-true (total (valuation rows i)) (n * seen i i) (all-mem _ even mi),
           ) in
           le-of-mul-le-mul-left multiples some
+
+  -- no more than the whole share is promised
+  pub maximinFair-noneNegative : (shares : List ℕ) → maximinFair n rows shares bundles ≡ true
+      → noneNegative n (marginsOf n (termsFor n) (ownValues n rows bundles) shares) ≡ true
+  unfolding maximinFair
+  maximinFair-noneNegative shares fair =
+      noneNegative-own n (termsFor n) rows bundles shares
+      ∙ mem-all _ (range 1 n) (λ i mi. le-leb _ _ (mul-le-mul (top-le-bottom n) (leb-true (nth 0 shares i) (seen i i) (all-mem _ fair mi))))

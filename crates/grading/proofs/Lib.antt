@@ -1,6 +1,8 @@
 -- Laws of the grade, and the scale that the grades are.
-pub mod Even
+pub mod Samples
+pub mod NoneNegative
 pub mod Tests
+pub mod InPlaces
 pub mod Grades
 pub mod Implied
 pub mod Scale

@@ -1,7 +1,7 @@
 -- The grades are a scale: what passes a test passes all those after it, and its grade is the first. For every table, n agents (yards),
 -- m items (pieces) and any marks, and every allocation of its items. Assumes nothing.
 use mathlib.Core.Path.{_≡_, refl, sym, ap, _∙_}
-use mathlib.Core.Bool.{Bool, true, false, cond}
+use mathlib.Core.Bool.{Bool, true, false}
 use mathlib.Core.Logic.{⊎-elim}
 use mathlib.Core.List.{List, [], _∷_, map}
 use Prim.Native.Nat.{ℕ, _-_, _≤_}
@@ -14,34 +14,28 @@ use Rattle.lists.proofs.Cases.{lt-or-ge}
 use Rattle.lists.proofs.ranges.Ranges.{in-range, nth-map-range}
 use Rattle.sheet.specs.Tables.{profile}
 use Rattle.sheet.specs.Allocations.{Allocates}
+use Rattle.margins.specs.Margins.{noneNegative}
 use Rattle.grading.specs.Grade.{envyFree, proportional, maximinFair, grade}
-use Rattle.grading.specs.Scale.{sharesOf, passes, gradeByTable}
-use Rattle.grading.proofs.Implied.{envyFree-proportional, proportional-maximinFair}
-
--- the number of the first of three tests that passes, or 4
-abbrev first : Bool → Bool → Bool → ℕ
-first a b c = cond a 1 (cond b 2 (cond c 3 4))
-
-first-le : (a b c : Bool) → first a b c ≤ 4
-first-le true b c = omega arith
-first-le false true c = omega arith
-first-le false false true = omega arith
-first-le false false false = omega arith
+use Rattle.grading.specs.Scale.{sharesOf, marginsByTable, passes, gradeByTable}
+use Rattle.grading.proofs.Grades.{first, first-bounds}
+use Rattle.grading.proofs.Implied.{envyFree-proportional, proportional-maximinFair, maximinFair-noneNegative}
 
 -- where each test implies the next, they pass from the first that passes on
-from-first : (a b c : Bool) → (a ≡ true → b ≡ true) → (b ≡ true → c ≡ true) → a ∷ b ∷ c ∷ [] ≡ map (leb (first a b c)) (range 1 3)
-from-first true b c ab bc = rw (bc (ab refl), ab refl)
-from-first false true c ab bc = rw (bc refl)
-from-first false false true ab bc = refl
-from-first false false false ab bc = refl
+from-first : (a b c d : Bool) → (a ≡ true → b ≡ true) → (b ≡ true → c ≡ true) → (c ≡ true → d ≡ true) → a ∷ b ∷ c ∷ d ∷ [] ≡ map (leb (first a b c d)) (range 1 4)
+from-first true b c d ab bc cd = rw (cd (bc (ab refl)), bc (ab refl), ab refl)
+from-first false true c d ab bc cd = rw (cd (bc refl), bc refl)
+from-first false false true d ab bc cd = rw (cd refl)
+from-first false false false true ab bc cd = refl
+from-first false false false false ab bc cd = refl
 
-nth-from-first : (a b c : Bool) → (a ≡ true → b ≡ true) → (b ≡ true → c ≡ true) → (g : ℕ) → 1 ≤ g → nth true (a ∷ b ∷ c ∷ []) g ≡ leb (first a b c) g
-nth-from-first a b c ab bc g some =
-    ap (λ l. nth true l g) (from-first a b c ab bc)
+nth-from-first : (a b c d : Bool) → (a ≡ true → b ≡ true) → (b ≡ true → c ≡ true) → (c ≡ true → d ≡ true)
+    → (g : ℕ) → 1 ≤ g → nth true (a ∷ b ∷ c ∷ d ∷ []) g ≡ leb (first a b c d) g
+nth-from-first a b c d ab bc cd g some =
+    ap (λ l. nth true l g) (from-first a b c d ab bc cd)
     ∙ ⊎-elim
-    (λ lt. nth-map-range (leb (first a b c)) true 3 (in-range 1 3 g some (omega arith)))
-    (λ ge. List·getD-eq-default (map (leb (first a b c)) (range 1 3)) true {n = g - 1} (omega arith) ∙ sym (le-leb (first a b c) g (omega (arith, first-le a b c))))
-    (lt-or-ge g 4)
+    (λ lt. nth-map-range (leb (first a b c d)) true 4 (in-range 1 4 g some (omega arith)))
+    (λ ge. List·getD-eq-default (map (leb (first a b c d)) (range 1 4)) true {n = g - 1} (omega arith) ∙ sym (le-leb (first a b c d) g (omega (arith, first-bounds a b c d))))
+    (lt-or-ge g 5)
 
 module _ (n m : ℕ) (table bundles : List (List ℕ)) (allocates : Allocates n m bundles) where
   -- it passes the test for g exactly where its grade is at most g
@@ -52,8 +46,10 @@ module _ (n m : ℕ) (table bundles : List (List ℕ)) (allocates : Allocates n 
       (envyFree n (profile n m table) (sharesOf n m table) bundles)
       (proportional n (profile n m table) (sharesOf n m table) bundles)
       (maximinFair n (profile n m table) (sharesOf n m table) bundles)
+      (noneNegative n (marginsByTable n m table bundles))
       (envyFree-proportional n m table bundles allocates (sharesOf n m table))
       (proportional-maximinFair n m table bundles)
+      (maximinFair-noneNegative n m table bundles (sharesOf n m table))
 
   -- what passes a test passes all those after it
   pub passes-later : (g h : ℕ) → 1 ≤ g → g ≤ h → passes n m table bundles g ≡ true → passes n m table bundles h ≡ true

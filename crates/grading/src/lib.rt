@@ -8,8 +8,11 @@ ghost use Rattle.sheet.specs.Limits.{mostAgents, mostItems, greatestSum};
 ghost use Rattle.sheet.specs.Sets.{itemsOf};
 ghost use Rattle.sheet.specs.Valuations.{value};
 ghost use Rattle.sheet.specs.Tables.{allValues, profile};
-ghost use Rattle.grading.specs.Grade.{gradeIn};
+ghost use Rattle.sheet.specs.Amounts.{SmallAmounts};
+ghost use Rattle.grading.specs.Grade.{worthsIn, gradeIn};
 ghost use Rattle.grading.specs.internal.Compared.{compared};
+use margins::Margins;
+use margins::none_negative;
 use sheet::Row;
 use sheet::Sets;
 use sheet::Sheet;
@@ -30,10 +33,25 @@ struct Compared {
 }
 
 // The value of a bundle, without the items above `items`, which are not in use.
-fn value_in_use(valuation: Row, bundle: u16, items: usize) -> u64
+pub fn value_in_use(valuation: Row, bundle: u16, items: usize) -> u64
     ensures { λ r. ⌜ (r ≡ value (allValues (min items mostItems) valuation) (itemsOf bundle)) × (r ≤ greatestSum) ⌝ }
 {
     value_of(valuation, bundle % (all_items(items) + 1))
+}
+
+// The value of each agent's own bundle, 0 after the last agent. Counts above the limits of a sheet are cut to them.
+pub fn worths_of(table: Table, agents: usize, items: usize, bundles: Sets) -> Amounts
+    ensures { λ r. ⌜ (r ≡ worthsIn agents items table bundles) × SmallAmounts r ⌝ }
+{
+    let last = lesser(agents, Sheet::AGENTS);
+    let mut worths = [0u64; Sheet::AGENTS];
+    let mut i: usize = 0;
+    while i < last {
+        let row = table[i];
+        worths[i] = value_in_use(row, bundles[i], items);
+        i += 1;
+    }
+    worths
 }
 
 // The greater of two numbers.
@@ -88,8 +106,15 @@ fn compare(table: Table, agents: usize, items: usize, bundles: Sets) -> Compared
 
 // The grade of an allocation: the first that fits. Agents and items above the limits of a sheet, and items in a bundle above `items`,
 // count for nothing.
-pub fn grade_of(table: Table, agents: usize, items: usize, shares: Amounts, bundles: Sets) -> u8
-    ensures { λ r. ⌜ r ≡ gradeIn agents items table shares bundles ⌝ }
+pub fn grade_of(
+    table: Table,
+    agents: usize,
+    items: usize,
+    shares: Amounts,
+    margins: Margins,
+    bundles: Sets,
+) -> u8
+    ensures { λ r. ⌜ r ≡ gradeIn agents items table shares margins bundles ⌝ }
 {
     let last = lesser(agents, Sheet::AGENTS);
     let compared = compare(table, last, items, bundles);
@@ -106,5 +131,8 @@ pub fn grade_of(table: Table, agents: usize, items: usize, shares: Amounts, bund
     if each_at_most(shares, own, last) {
         return 3;
     }
-    4
+    if none_negative(margins, last) {
+        return 4;
+    }
+    5
 }

@@ -1,4 +1,5 @@
--- The allocation from all agents and all items keeps the promise and gives each item to one agent. Assumes nothing.
+-- The allocation from all agents and all items keeps the promise, so that no margin is below zero, and gives each item to one agent.
+-- Assumes nothing.
 use mathlib.Core.Path.{_≡_, sym, ap, _∙_}
 use mathlib.Core.Bool.{true}
 use mathlib.Core.List.{List, [], map, map-map, List·Memᴰ as Mem, Memᴰ·of-map}
@@ -10,7 +11,7 @@ use lib.ListN.{length, length-map}
 use Rattle.lists.specs.Lists.{range, nth}
 use Rattle.lists.specs.Sums.{total, sumOver}
 use Rattle.lists.proofs.ranges.Ranges.{in-range, range-bounds, length-range, nth-map-range}
-use Rattle.lists.proofs.members.Counting.{sublist-mem}
+use Rattle.lists.proofs.members.Counting.{sublist-mem, mem-all}
 use Rattle.lists.proofs.sums.InOneList.{in-one-list}
 use Rattle.sheet.specs.Valuations.{value}
 use Rattle.sheet.specs.Tables.{valuation, profile}
@@ -18,9 +19,11 @@ use Rattle.sheet.specs.Allocations.{Allocates}
 use Rattle.sheet.proofs.valuing.Tables.{value-profile}
 use Rattle.shares.specs.Shares.{shareOf}
 use Rattle.shares.proofs.Profile.{nth-shares, shareOf-profile}
-use Rattle.rounds.specs.declared.Terms.{Terms}
+use Rattle.margins.specs.declared.Terms.{Terms}
+use Rattle.margins.specs.Margins.{noneNegative}
+use Rattle.grading.proofs.NoneNegative.{noneNegative-own}
 use Rattle.rounds.specs.Round.{Instance, suits, Round, round, held}
-use Rattle.rounds.specs.Division.{instanceOf, allRounds, allocation}
+use Rattle.rounds.specs.Division.{instanceOf, allRounds, allocation, allocationMargins}
 use Rattle.rounds.proofs.density.Terms.{Allowed}
 use Rattle.rounds.proofs.round.Held.{allSuit-length}
 use Rattle.rounds.proofs.round.Invariant.{Sound, left-all, round-suits}
@@ -57,12 +60,21 @@ module _ (n m : ℕ) (terms : Terms) (table : List (List ℕ)) where
         (λ agents items some state. allSuit-length (suits G) (round G agents items .served) (round G agents items .bundles) (round-suits sound some state))
         n (range 1 n) (range 1 m) (left-all n m G)
 
+    -- each agent holds a bundle that suits it
+    holds-suiting : (agent : ℕ) → Mem agent (range 1 n) → suits G agent (nth [] (allocation n m G) agent) ≡ true
+    holds-suiting agent i =
+        rw (nth-map-range holds [] n i) (held-suits sound n (range 1 n) (range 1 m) agents-enough (left-all n m G) agent i)
+
+    -- "every margin to be zero or more"
+    pub allocation-noneNegative : noneNegative n (allocationMargins n m G) ≡ true
+    allocation-noneNegative = noneNegative-own n terms (profile n m table) (allocation n m G) (G .shares) ∙ mem-all _ (range 1 n) holds-suiting
+
     -- by the marks of the table each agent holds what it is promised
     pub holds-promised : (agent : ℕ) → Mem agent (range 1 n)
         → leb (terms .top * shareOf n m table agent) (terms .bottom * value (valuation table agent) (nth [] (allocation n m G) agent)) ≡ true
     holds-promised agent i =
-        rw (nth-map-range holds [] n i, ← nth-shares n m table i, ← value-profile n m table i (held-sublist G n (range 1 n) (range 1 m) agent))
-        (held-suits sound n (range 1 n) (range 1 m) agents-enough (left-all n m G) agent i)
+        let of-items : Sublist (nth [] (allocation n m G) agent) (range 1 m) = rw (nth-map-range holds [] n i) (held-sublist G n (range 1 n) (range 1 m) agent) in
+        rw (← nth-shares n m table i, ← value-profile n m table i of-items) (holds-suiting agent i)
 
     -- each item stands in exactly one bundle, and no bundle has any other item
     pub allocation-allocates : 1 ≤ n → Allocates n m (allocation n m G)

@@ -18,7 +18,7 @@ use Rattle.matching.specs.Matching.{cutterOf, chosenOf}
 use Rattle.matching.proofs.Cutter.{cutterOf-mem, cutterOf-lowest}
 use Rattle.matching.proofs.Serving.{waitingOf-largest, cutterOf-served}
 use Rattle.matching.proofs.Ties.{waitingOf-first, chosenOf-first}
-use Rattle.rounds.specs.Terms.{termsFor}
+use Rattle.margins.specs.Terms.{termsFor}
 use Rattle.rounds.specs.Round.{Instance, cutOf, Round, round, rounds}
 use Rattle.rounds.specs.Documented.{RoundAsDocumented, FollowOn}
 use Rattle.rounds.specs.Division.{standardInstance, allRounds}

@@ -5,5 +5,6 @@ pub mod round
 pub mod Allocation
 pub mod Answers
 pub mod EveryRound
+pub mod Graded
 pub mod Theorems
 pub mod Samples

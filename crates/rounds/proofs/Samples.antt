@@ -1,16 +1,17 @@
 -- The table of terms, refusals 4 and 5, and the starred sheets a to i of document 01 in one table, by computation; b and d have the grade of
--- document 02, order 2, and a sheet of grade 2 stands behind them. Assumes nothing.
+-- document 02, order 2, all have the margins of order 5, and a sheet of grade 2 stands behind them. Assumes nothing.
 use mathlib.Core.Path.{_≡_, refl, ap}
 use mathlib.Core.Logic.{_⊎_, inl, inr}
 use mathlib.Core.List.{List, [], _∷_, map}
 use Prim.Native.Nat.{ℕ}
+use lib.IntN.{pos}
 use Rattle.sheet.specs.Sets.{itemsOf}
 use Rattle.sheet.specs.Valuations.{valuesOf}
 use Rattle.cut.specs.Share.{maximinShare, maximinPartition}
 use Rattle.cut.specs.Outcome.{Cutting, cutting}
 use Rattle.cut.proofs.Samples.{Sample as CutSample}
-use Rattle.rounds.specs.declared.Terms.{Terms}
-use Rattle.rounds.specs.Terms.{largestOdd, termsFor}
+use Rattle.margins.specs.Terms.{largestOdd, termsFor}
+use Rattle.margins.specs.Margins.{margin}
 use Rattle.sheet.specs.Tables.{profile}
 use Rattle.matching.specs.Matching.{waitingSet, matching}
 use Rattle.rounds.specs.Round.{round, rounds, held}
@@ -18,14 +19,6 @@ use Rattle.grading.specs.Grade.{envyFree, proportional, maximinFair, grade}
 use Rattle.rounds.specs.Division.{Division, divisionOf, answer}
 use Rattle.sheet.specs.Answers.{Answer, refused, accepted}
 use Rattle.shares.specs.Shares.{sharesCovered, sharing}
-
--- top and bottom in the table of "Rounds"
-abbrev over : ℕ → ℕ → Terms
-over top bottom = record { top = top; bottom = bottom }
-
-pub terms-table : map termsFor (1 ∷ 2 ∷ 3 ∷ 4 ∷ 5 ∷ 6 ∷ []) ≡ over 2 2 ∷ over 2 2 ∷ over 6 8 ∷ over 6 8 ∷ over 10 14 ∷ over 10 14 ∷ []
-unfolding termsFor largestOdd
-terms-table = refl
 
 -- 0 and 7 yards give 4, 0 and 13 pieces give 5, and 4 is tried first
 pub refusals-hold : answer 0 3 [] ∷ answer 7 3 [] ∷ answer 2 0 [] ∷ answer 2 13 [] ∷ answer 7 13 [] ∷ []
@@ -66,6 +59,7 @@ starred =
         bundles = (1 ∷ []) ∷ (2 ∷ 3 ∷ []) ∷ [];
         shares = 5 ∷ 4 ∷ [];
         cuts = (1 ∷ 2 ∷ 2 ∷ []) ∷ (1 ∷ 2 ∷ 2 ∷ []) ∷ [];
+        margins = pos 0 ∷ pos 0 ∷ [];
         cutters = 1 ∷ [];
         grade = 3;
       };
@@ -79,6 +73,7 @@ starred =
         bundles = (3 ∷ []) ∷ (1 ∷ 2 ∷ []) ∷ (4 ∷ []) ∷ [];
         shares = 1 ∷ 6 ∷ 2 ∷ [];
         cuts = (1 ∷ 1 ∷ 2 ∷ 3 ∷ []) ∷ (1 ∷ 2 ∷ 3 ∷ 3 ∷ []) ∷ (1 ∷ 1 ∷ 2 ∷ 3 ∷ []) ∷ [];
+        margins = pos 2 ∷ pos 60 ∷ pos 4 ∷ [];
         cutters = 1 ∷ 2 ∷ [];
         grade = 3;
       };
@@ -92,6 +87,7 @@ starred =
         bundles = (1 ∷ 2 ∷ []) ∷ (3 ∷ []) ∷ (4 ∷ []) ∷ [];
         shares = 1 ∷ 4 ∷ 1 ∷ [];
         cuts = (1 ∷ 1 ∷ 2 ∷ 3 ∷ []) ∷ (1 ∷ 2 ∷ 3 ∷ 3 ∷ []) ∷ (1 ∷ 1 ∷ 2 ∷ 3 ∷ []) ∷ [];
+        margins = pos 10 ∷ pos 0 ∷ pos 2 ∷ [];
         cutters = 1 ∷ [];
         grade = 4;
       };
@@ -105,6 +101,7 @@ starred =
         bundles = (3 ∷ []) ∷ (1 ∷ 2 ∷ []) ∷ (4 ∷ []) ∷ [];
         shares = 1 ∷ 8 ∷ 1 ∷ [];
         cuts = (1 ∷ 1 ∷ 2 ∷ 3 ∷ []) ∷ (1 ∷ 2 ∷ 3 ∷ 3 ∷ []) ∷ (1 ∷ 1 ∷ 2 ∷ 3 ∷ []) ∷ [];
+        margins = pos 2 ∷ pos 80 ∷ pos 2 ∷ [];
         cutters = 1 ∷ 2 ∷ [];
         grade = 3;
       };
@@ -118,6 +115,7 @@ starred =
         bundles = (1 ∷ []) ∷ [] ∷ [];
         shares = 0 ∷ 0 ∷ [];
         cuts = (1 ∷ []) ∷ (1 ∷ []) ∷ [];
+        margins = pos 14 ∷ pos 0 ∷ [];
         cutters = 1 ∷ [];
         grade = 3;
       };
@@ -131,6 +129,7 @@ starred =
         bundles = (1 ∷ 2 ∷ []) ∷ [] ∷ [];
         shares = 0 ∷ 0 ∷ [];
         cuts = (1 ∷ 1 ∷ []) ∷ (1 ∷ 1 ∷ []) ∷ [];
+        margins = pos 0 ∷ pos 0 ∷ [];
         cutters = 1 ∷ [];
         grade = 1;
       };
@@ -148,6 +147,7 @@ starred =
         bundles = (1 ∷ 2 ∷ 3 ∷ []) ∷ [];
         shares = 12 ∷ [];
         cuts = (1 ∷ 1 ∷ 1 ∷ []) ∷ [];
+        margins = pos 0 ∷ [];
         cutters = 1 ∷ [];
         grade = 1;
       };
@@ -161,6 +161,7 @@ starred =
         bundles = (1 ∷ []) ∷ (2 ∷ []) ∷ (3 ∷ []) ∷ [];
         shares = 1 ∷ 1 ∷ 1 ∷ [];
         cuts = (1 ∷ 2 ∷ 3 ∷ []) ∷ (1 ∷ 2 ∷ 3 ∷ []) ∷ (1 ∷ 2 ∷ 3 ∷ []) ∷ [];
+        margins = pos 2 ∷ pos 2 ∷ pos 18 ∷ [];
         cutters = 1 ∷ [];
         grade = 2;
       };
@@ -169,7 +170,7 @@ starred =
 
 -- "The starred sheets are proved as a table, by one theorem covering its rows"
 pub starred-hold : map worked starred ≡ map stated starred
-unfolding starred answer divisionOf sharing sharesCovered profile termsFor largestOdd round rounds held waitingSet matching maximinShare maximinPartition grade envyFree proportional maximinFair cutting valuesOf itemsOf
+unfolding starred answer divisionOf sharing sharesCovered profile termsFor largestOdd round rounds held waitingSet matching maximinShare maximinPartition margin grade envyFree proportional maximinFair cutting valuesOf itemsOf
 starred-hold = refl
 
 -- the sheets of the table

@@ -4,7 +4,7 @@ use mathlib.Core.List.{List, List·Memᴰ as Mem}
 use Prim.Native.Nat.{ℕ}
 use lib.ListN.{length}
 use Rattle.shares.specs.Shares.{sharing}
-use Rattle.rounds.specs.Terms.{termsFor}
+use Rattle.margins.specs.Terms.{termsFor}
 use Rattle.sheet.specs.Tables.{AgreeInUse}
 use Rattle.rounds.specs.Round.{Round}
 use Rattle.rounds.specs.Division.{standardInstance, allRounds, answer}

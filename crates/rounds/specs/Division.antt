@@ -1,21 +1,24 @@
 -- The answer for a table: its division, or the reason why it is refused. Assumes nothing: these are definitions.
 use mathlib.Core.List.{List, map}
 use Prim.Native.Nat.{ℕ}
+use lib.IntN.{ℤ}
 use Rattle.lists.specs.Lists.{range}
 use Rattle.sheet.specs.Answers.{Answer, accepted, andThen}
 use Rattle.sheet.specs.Tables.{profile}
 use Rattle.cut.specs.Share.{maximinShare, maximinPartition}
-use Rattle.rounds.specs.declared.Terms.{Terms}
-use Rattle.rounds.specs.Terms.{termsFor}
+use Rattle.margins.specs.declared.Terms.{Terms}
+use Rattle.margins.specs.Terms.{termsFor}
+use Rattle.margins.specs.Margins.{marginsOf}
 use Rattle.rounds.specs.Round.{Instance, Round, rounds, held}
-use Rattle.grading.specs.Grade.{grade}
+use Rattle.grading.specs.Grade.{ownValues, grade}
 use Rattle.shares.specs.Shares.{sharing}
 
--- a division, agent after agent: the bundles (piles), the shares, the cuts of all items; the cutter of each round; the grade
+-- a division, agent after agent: the bundles (piles), the shares, the cuts of all items, the margins; the cutter of each round; the grade
 pub record Division : Type 0 where
   pub bundles : List (List ℕ)
   pub shares : List ℕ
   pub cuts : List (List ℕ)
+  pub margins : List ℤ
   pub cutters : List ℕ
   pub grade : ℕ
 
@@ -36,6 +39,10 @@ module _ (n m : ℕ) (G : Instance) where
   abbrev pub allocation : List (List ℕ)
   allocation = map (held allRounds) (range 1 n)
 
+  -- the margin of each agent: "bottom × worth minus top × share"
+  abbrev pub allocationMargins : List ℤ
+  allocationMargins = marginsOf n (G .terms) (ownValues n (G .valuations) allocation) (G .shares)
+
   -- the division by the rounds, with each agent's cut of all items into n bundles
   unfoldable pub divisionOf : Division
   divisionOf =
@@ -43,8 +50,9 @@ module _ (n m : ℕ) (G : Instance) where
         bundles = allocation;
         shares = G .shares;
         cuts = map (maximinPartition n) (G .valuations);
+        margins = allocationMargins;
         cutters = map (λ r. r .cutter) allRounds;
-        grade = grade n (G .valuations) (G .shares) allocation;
+        grade = grade n (G .valuations) (G .shares) allocationMargins allocation;
       }
 
 -- the division of a table by the rounds of document 01

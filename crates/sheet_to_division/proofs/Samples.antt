@@ -13,7 +13,7 @@ use Rattle.reading.specs.Grammar as grammar
 use Rattle.reading.specs.Reading.{reading}
 use Rattle.cut.specs.Share.{maximinShare, maximinPartition}
 use Rattle.matching.specs.Matching.{waitingSet, matching}
-use Rattle.rounds.specs.Terms.{largestOdd, termsFor}
+use Rattle.margins.specs.Terms.{largestOdd, termsFor}
 use Rattle.rounds.specs.Round.{round, rounds, held}
 use Rattle.grading.specs.Grade.{envyFree, proportional, maximinFair, grade}
 use Rattle.shares.specs.Shares.{sharesCovered, sharing}

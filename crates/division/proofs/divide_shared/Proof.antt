@@ -2,7 +2,7 @@
 -- Assumes nothing.
 use mathlib.Core.Path.{_≡_, ap, ap₂, _∙_}
 use mathlib.Core.List.{[]}
-use Prim.Native.Nat.{ℕ}
+use Prim.Native.Nat.{ℕ, min}
 use native.Mathlib.Omega.{arith}
 use lib.ListN.{getD}
 use borrow.Author.Needs.{needs}
@@ -12,9 +12,10 @@ use Rattle.shares.specs.Shares.{sharing}
 use Rattle.shares.specs.Outcome.{outcome}
 use Rattle.shares.specs.declared.Cut.{Cut}
 use Rattle.shares.specs.declared.Outcome.{Outcome}
+use Rattle.grading.specs.Grade.{gradeIn}
 use Rattle.serving.specs.Serving.{agentsIn}
-use Rattle.rounds.specs.Terms.{termsFor}
-use Rattle.rounds.specs.declared.Terms.{Terms}
+use Rattle.margins.specs.Terms.{termsFor}
+use Rattle.margins.specs.declared.Terms.{Terms}
 use Rattle.division.specs.internal.Left.{instanceFrom}
 use Rattle.division.specs.internal.Allocation.{allottedAll}
 use Rattle.division.specs.declared.dividing.Allocation.{Allocation}
@@ -46,15 +47,28 @@ items-are c =
     let s = c .before .before .before .before .before .before .before in
     c .all-items2 .ensures ∙ upTo-is (s .args .items) mostItems (s .pre .counts .few-items) (omega arith)
 
+-- the terms for the agents
+terms-are : (c : tie.After-terms-for) → c .terms-for .result ≡ termsFor (c .before .before .before .before .before .args .agents)
+terms-are c =
+    let s = c .before .before .before .before .before in
+    let agents : min (s .args .agents) mostAgents ≡ s .args .agents = omega (arith, s .pre .counts .few) in
+    c .terms-for .ensures ∙ ap termsFor agents
+
 divide-left-requires : tie.Need-divide-left-requires
 divide-left-requires c κs =
     let s = c .before .before .before .before .before .before .before in
     let a = s .args in
     let none : Cut = record { partition = [] } in
-    rw (c .before .before .terms-for .ensures, agents-are (c .before), items-are c) (
+    rw (terms-are (c .before .before), agents-are (c .before), items-are c) (
       ready-all (a .agents) (a .items) (a .table) (s .pre .counts) (a .own .shares) (s .pre .small-shares),
       ap (λ o. getD (o .cuts) 0 none .partition) (s .pre .own-shares) ∙ first-cut (a .agents) (a .items) (a .table) (s .pre .counts) none,
     )
+
+worths-of-requires : tie.Need-worths-of-requires
+worths-of-requires c κs = search needs
+
+margins-of-requires : tie.Need-margins-of-requires
+margins-of-requires c κs = search needs
 
 grade-of-requires : tie.Need-grade-of-requires
 grade-of-requires c κs = search needs
@@ -70,18 +84,21 @@ handed c =
     let run : Terms → Outcome → ℕ → ℕ → Allocation = λ terms own left set. allottedAll (instanceFrom terms (a .table) (own .shares)) (agentsIn left) (itemsOf set) nothing in
     let out =
     c .divide-left .ensures
-    ∙ ap₂ (λ terms own. run terms own (c .before .before .all-items .result) (c .before .all-items2 .result)) (c .before .before .before .terms-for .ensures) (s .pre .own-shares)
+    ∙ ap₂ (λ terms own. run terms own (c .before .before .all-items .result) (c .before .all-items2 .result)) (terms-are (c .before .before .before)) (s .pre .own-shares)
     ∙ ap₂ (run (termsFor (a .agents)) (outcome (sharing (a .agents) (a .items) (a .table)))) (agents-are (c .before .before)) (items-are (c .before)) in
     let accepted = allotted-accepted (a .agents) (a .items) (a .table) (s .pre .counts) in
     (ap (λ r. r .bundles) out ∙ accepted .0, ap (λ r. r .cutters) out ∙ accepted .1)
 
 returns : tie.Need-returns
 returns c =
-    let at-handed = c .before .before .before in
+    let margined = c .before in
+    let valued = margined .before in
+    let at-handed = valued .before .before .before in
     let s = at-handed .before .before .before .before .before .before .before .before in
     let a = s .args in
-    outcome-accepted (a .agents) (a .items) (a .table) (s .pre .counts) (c .grade-of .result) (at-handed .divide-left .result .bundles) (at-handed .divide-left .result .cutters) (a .own)
-    (c .grade-of .ensures) (handed at-handed .0) (handed at-handed .1) (s .pre .own-shares)
+    outcome-accepted (a .agents) (a .items) (a .table) (s .pre .counts) (c .grade-of .result) (at-handed .divide-left .result .bundles) (at-handed .divide-left .result .cutters) (valued .worths-of .result) (a .own)
+    (c .grade-of .ensures ∙ ap (λ margins. gradeIn (a .agents) (a .items) (a .table) (a .own .shares) margins (at-handed .divide-left .result .bundles)) (margined .margins-of .ensures))
+    (valued .worths-of .ensures .0) (valued .worths-of .ensures .1) (s .pre .small-shares) (handed at-handed .0) (handed at-handed .1) (s .pre .own-shares)
 
 pub divide-shared-spec : {M : Type 1} → statement M
 divide-shared-spec =
@@ -92,5 +109,7 @@ divide-shared-spec =
     all-items-requires
     all-items-requires-2
     divide-left-requires
+    worths-of-requires
+    margins-of-requires
     grade-of-requires
     returns)

@@ -33,7 +33,7 @@ use Rattle.serving.specs.Serving.{suitsOf, agentsIn, servingOf}
 use Rattle.serving.proofs.round.AgentsLeft.{agentsIn-sublist}
 use Rattle.serving.proofs.round.Parts.{chosen-within, servingOf-cong}
 use Rattle.rounds.specs.Round.{Instance, cutOf, round}
-use Rattle.rounds.specs.declared.Terms.{Terms}
+use Rattle.margins.specs.declared.Terms.{Terms}
 use Rattle.rounds.proofs.round.Parts.{cutSuits}
 use Rattle.division.specs.internal.Suiting.{setSuits, suitsRow, suitsTable}
 use Rattle.division.specs.internal.Left.{instanceFrom, Cuttable}

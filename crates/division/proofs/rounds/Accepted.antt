@@ -1,15 +1,18 @@
 -- A table that is not refused: where its rounds start, what they hand out, and the grade of that. Assumes nothing.
-use mathlib.Core.Path.{_≡_, refl, sym, ap, ap₂, _∙_}
+use mathlib.Core.Path.{_≡_, refl, sym, ap, ap₂, subst, _∙_}
 use mathlib.Core.List.{List, [], _∷_, map, List·Memᴰ as Mem, List·Memᴰ·head as here, List·Memᴰ·tail as there}
 use mathlib.Core.List.{Sublistᴰ as Sublist, Sublistᴰ·nil-sublist as nil-sublist}
 use Prim.Native.Nat.{ℕ, zero, suc, _-_, _^_, _≤_, _<_, min}
 use native.Mathlib.Omega.{arith}
+use lib.IntN.{pos}
 use lib.ListN.{length, getD, List·getD-map}
-use Rattle.lists.specs.Lists.{range, padded}
-use Rattle.lists.proofs.ranges.Ranges.{length-range, range-sublist}
-use Rattle.sheet.specs.Limits.{mostAgents, mostItems, setBits, CountsWithin}
+use Rattle.lists.specs.Lists.{range, nth, padded}
+use Rattle.lists.proofs.ranges.Ranges.{length-range, range-sublist, nth-map-range}
+use Rattle.sheet.specs.Limits.{mostAgents, mostItems, setBits, CountsWithin, InUse}
+use Rattle.sheet.proofs.Limits.{counts-in-use}
 use Rattle.sheet.specs.Answers.{accepted}
 use Rattle.sheet.specs.Sets.{itemsOf, setOf}
+use Rattle.sheet.specs.Valuations.{value}
 use Rattle.sheet.specs.Tables.{valuation, allValues, profile}
 use Rattle.sheet.specs.Amounts.{SmallAmounts}
 use Rattle.sheet.proofs.sets.Sets.{items-setOf}
@@ -22,12 +25,15 @@ use Rattle.shares.specs.declared.Cut.{Cut}
 use Rattle.shares.specs.declared.Outcome.{Outcome as SharesOutcome}
 use Rattle.shares.proofs.Profile.{nth-shares}
 use Rattle.shares.proofs.Outcomes.{shares-within, cuts-within, nth-share}
-use Rattle.grading.specs.Grade.{grade, gradeIn}
+use Rattle.grading.specs.Grade.{ownValues, valueTo, grade, worthsIn, gradeIn}
+use Rattle.grading.proofs.InPlaces.{nth-worthsIn}
+use Rattle.margins.proofs.Stored.{nth-marginsStored}
 use Rattle.grading.proofs.Grades.{grade-cong, gradeIn-within}
 use Rattle.serving.specs.Serving.{agentsIn}
 use Rattle.serving.proofs.round.AgentsLeft.{agentsIn-items}
-use Rattle.rounds.specs.Terms.{largestOdd, termsFor}
-use Rattle.rounds.specs.Division.{standardInstance, allRounds, allocation, divisionOf, divisionByRounds}
+use Rattle.margins.specs.Terms.{largestOdd, termsFor}
+use Rattle.margins.specs.Margins.{margin, marginsStored}
+use Rattle.rounds.specs.Division.{standardInstance, allRounds, allocation, allocationMargins, divisionOf, divisionByRounds}
 use Rattle.rounds.proofs.density.Terms.{termsFor-allowed}
 use Rattle.rounds.proofs.Allocation.{sound, allocation-sublist}
 use Rattle.division.specs.Outcome.{outcome}
@@ -121,21 +127,63 @@ module _ (n m : ℕ) (table : List (List ℕ)) (counts : CountsWithin n m) where
       let s = sound n m (termsFor n) table (termsFor-allowed n) in
       rw (agentsIn-all, itemsOf-all, length-range 1 n, rounds-standard n m table counts) (allotted-bundles s (counts .few), allotted-cutters-all s (counts .few))
 
-  -- the grade of what they hand out
-  grade-accepted : gradeIn n m table (sharesOutcome (sharing n m table) .shares) placedSets ≡ grade n (profile n m table) (map (maximinShare n) (profile n m table)) bundles
+  in-use : InUse n m
+  in-use = counts-in-use counts
+
+  -- the marks in use
+  abbrev rows : List (List ℕ)
+  rows = profile n m table
+
+  -- the shares in their places, and agent after agent
+  abbrev placedShares : List ℕ
+  placedShares = sharesOutcome (sharing n m table) .shares
+
+  abbrev shares : List ℕ
+  shares = map (maximinShare n) rows
+
+  -- the bundle and the share of an agent, read from their places
+  bundle-read : (i : ℕ) → nth [] (map itemsOf placedSets) i ≡ nth [] bundles i
   unfolding itemsOf
-  grade-accepted =
-      gradeIn-within n m table (sharesOutcome (sharing n m table) .shares) placedSets (record { some = counts .some; few = counts .few; few-items = counts .few-items })
-      ∙ grade-cong n (profile n m table) (sharesOutcome (sharing n m table) .shares) (map (maximinShare n) (profile n m table)) (map itemsOf placedSets) bundles
-      (λ i mi. nth-share n m table counts mi ∙ sym (nth-shares n m table mi))
-      (λ i mi. List·getD-map itemsOf placedSets (i - 1) 0 ∙ items-at (i - 1))
+  bundle-read i = List·getD-map itemsOf placedSets (i - 1) 0 ∙ items-at (i - 1)
+
+  share-read : (i : ℕ) → Mem i (range 1 n) → nth 0 placedShares i ≡ nth 0 shares i
+  share-read i mi = nth-share n m table counts mi ∙ sym (nth-shares n m table mi)
+
+  module _ (worths : List ℕ) (same-worths : worths ≡ worthsIn n m table placedSets) (small-worths : SmallAmounts worths) (small-shares : SmallAmounts placedShares) where
+    -- the worth of an agent's bundle, and its margin
+    worth-read : (i : ℕ) → Mem i (range 1 n) → nth 0 worths i ≡ nth 0 (ownValues n rows bundles) i
+    worth-read i mi =
+        ap (λ l. nth 0 l i) same-worths
+        ∙ nth-worthsIn n m table placedSets in-use mi
+        ∙ ap (value (valuation rows i)) (bundle-read i)
+        ∙ sym (nth-map-range (λ k. valueTo n rows [] bundles k k) 0 n mi)
+
+    margin-read : (i : ℕ) → Mem i (range 1 n)
+        → nth (pos 0) (marginsStored n worths placedShares) i ≡ nth (pos 0) (allocationMargins n m (standardInstance n m table)) i
+    margin-read i mi =
+        nth-marginsStored n worths placedShares (counts .few) small-worths small-shares mi
+        ∙ ap₂ (margin (termsFor n)) (worth-read i mi) (share-read i mi)
+        ∙ sym (nth-map-range (λ k. margin (termsFor n) (nth 0 (ownValues n rows bundles) k) (nth 0 shares k)) (pos 0) n mi)
+
+    -- the grade of what the rounds hand out
+    grade-accepted : gradeIn n m table placedShares (marginsStored n worths placedShares) placedSets
+        ≡ grade n rows shares (allocationMargins n m (standardInstance n m table)) bundles
+    grade-accepted =
+        gradeIn-within n m table placedShares (marginsStored n worths placedShares) placedSets in-use
+        ∙ grade-cong n rows placedShares shares (marginsStored n worths placedShares) (allocationMargins n m (standardInstance n m table)) (map itemsOf placedSets) bundles
+        share-read
+        margin-read
+        (λ i mi. bundle-read i)
 
   -- the code's answer, from what the rounds hand out
-  pub outcome-accepted : (g : ℕ) (sets cutters : List ℕ) (own : SharesOutcome)
-      → g ≡ gradeIn n m table (own .shares) sets → sets ≡ placedSets → cutters ≡ placedCutters → own ≡ sharesOutcome (sharing n m table)
+  pub outcome-accepted : (g : ℕ) (sets cutters worths : List ℕ) (own : SharesOutcome)
+      → g ≡ gradeIn n m table (own .shares) (marginsStored n worths (own .shares)) sets → worths ≡ worthsIn n m table sets → SmallAmounts worths → SmallAmounts (own .shares)
+      → sets ≡ placedSets → cutters ≡ placedCutters → own ≡ sharesOutcome (sharing n m table)
       → record { answer = Divided g; bundles = sets; shares = own .shares; cuts = own .cuts; cutters = cutters } ≡ outcome (accepted (divisionByRounds n m table))
   unfolding divisionOf
-  outcome-accepted g sets cutters own graded same-sets same-cutters same-own =
-      let e : g ≡ grade n (profile n m table) (map (maximinShare n) (profile n m table)) bundles =
-      graded ∙ ap₂ (λ (o : SharesOutcome) l. gradeIn n m table (o .shares) l) same-own same-sets ∙ grade-accepted in
+  outcome-accepted g sets cutters worths own graded same-worths small-worths small-shares same-sets same-cutters same-own =
+      let e : g ≡ grade n rows shares (allocationMargins n m (standardInstance n m table)) bundles =
+      graded
+      ∙ ap₂ (λ (o : SharesOutcome) l. gradeIn n m table (o .shares) (marginsStored n worths (o .shares)) l) same-own same-sets
+      ∙ grade-accepted worths (same-worths ∙ ap (worthsIn n m table) same-sets) small-worths (subst (λ (o : SharesOutcome). SmallAmounts (o .shares)) same-own small-shares) in
       rw (e, same-sets, same-cutters, same-own, shares-within n m table counts, cuts-within n m table counts)

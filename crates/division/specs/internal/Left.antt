@@ -10,7 +10,7 @@ use Rattle.cut.specs.Share.{maximinPartition}
 use Rattle.matching.specs.Matching.{cutterOf}
 use Rattle.serving.specs.Serving.{agentsIn}
 use Rattle.rounds.specs.Round.{Instance}
-use Rattle.rounds.specs.declared.Terms.{Terms}
+use Rattle.margins.specs.declared.Terms.{Terms}
 use Rattle.division.specs.internal.Suiting.{SmallTerms}
 use Rattle.division.specs.declared.dividing.Allocation.{Allocation}
 

@@ -8,7 +8,7 @@ use Rattle.sheet.specs.Limits.{mostAgents}
 use Rattle.sheet.specs.Sets.{itemsOf}
 use Rattle.sheet.specs.Valuations.{value}
 use Rattle.sheet.specs.Tables.{valuation}
-use Rattle.rounds.specs.declared.Terms.{Terms}
+use Rattle.margins.specs.declared.Terms.{Terms}
 
 -- top and bottom have at most three decimal digits
 pub record SmallTerms (terms : Terms) : Type 0 where

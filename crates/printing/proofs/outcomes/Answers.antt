@@ -53,4 +53,4 @@ module _ (n m : ℕ) (table : List (List ℕ)) where
 
     -- and no longer than the longest
     pub text-short : ((i k : ℕ) → getD (getD table i []) k 0 < valueBound) → length (outcomeText n m table g (outcome (answer n m table))) ≤ longestPrinted
-    text-short small = rw text-printed (divisionByRounds-length n m table (a .limits .some) (a .limits .few) (a .limits .few-items) (λ i k. omega (arith, small (i - 1) (k - 1))))
+    text-short small = rw text-printed (divisionByRounds-length n m table (a .limits .some) (a .limits .few-items) (λ i k. omega (arith, small (i - 1) (k - 1))) (a .limits .few))

@@ -2,6 +2,7 @@
 use mathlib.Core.Path.{refl, sym, ap, _∙_}
 use lib.ListN.{length}
 use Rattle.sheet.specs.Limits.{mostAgents, mostItems}
+use Rattle.sheet.proofs.Limits.{counts-in-use}
 use Rattle.printing.proofs.outcomes.Marks.{table-small}
 use Rattle.printing.proofs.outcomes.Answers.{refusal-printed, Accepted, divided-accepted, division-printed, text-short}
 use borrow.Author.Needs.{needs}
@@ -28,7 +29,7 @@ print-outcome-requires c κs =
     let s = c .before .before .before .before .before .before in
     let a = s .args in
     let told = accepted (c .before .before) in (
-      record { some = told .limits .some; few = told .limits .few; few-items = told .limits .few-items },
+      counts-in-use (told .limits),
       rw (c .before .before .before .before .divide .ensures .0)
           (text-short (a .agents) (a .items) (a .table) (c .before .before .answer2 .given .0 .0) told (table-small mostAgents mostItems (a .table) _ (s .good .0))),
     )

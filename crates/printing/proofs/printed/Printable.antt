@@ -1,6 +1,5 @@
 -- What printing needs of a division by the rounds: how many entries its lists have, and what these are. Assumes nothing.
 use mathlib.Core.Path.{_≡_, ap, _∙_}
-use mathlib.Core.Bool.{Bool, true, false, cond}
 use mathlib.Core.Logic.{⊎-elim}
 use mathlib.Core.List.{List, [], _∷_, map, map-map, List·Memᴰ as Mem, List·Memᴰ·not-nil as not-nil, List·Memᴰ·cases-cons as cases-cons, Memᴰ·of-map}
 use mathlib.Core.List.{Sublistᴰ as Sublist}
@@ -14,11 +13,11 @@ use Rattle.sheet.specs.Valuations.{itemValue}
 use Rattle.sheet.specs.Tables.{valuation, allValues, profile}
 use Rattle.cut.specs.Share.{maximinShare, maximinPartition}
 use Rattle.cut.proofs.Laws.{maximinPartition-within}
-use Rattle.grading.specs.Grade.{envyFree, proportional, maximinFair, grade}
+use Rattle.grading.proofs.Grades.{grade-bounds}
 use Rattle.matching.proofs.Cutter.{cutterOf-mem}
-use Rattle.rounds.specs.Terms.{termsFor}
+use Rattle.margins.specs.Terms.{termsFor}
 use Rattle.rounds.specs.Round.{Instance, Round, round, rounds, held}
-use Rattle.rounds.specs.Division.{Division, standardInstance, allRounds, allocation, divisionOf, divisionByRounds}
+use Rattle.rounds.specs.Division.{Division, standardInstance, allRounds, allocation, allocationMargins, divisionOf, divisionByRounds}
 use Rattle.rounds.proofs.round.Parts.{waiting-sub}
 use Rattle.rounds.proofs.round.Rounds.{held-sublist, rounds-few}
 use Rattle.rounds.proofs.Allocation.{length-allocation}
@@ -47,17 +46,6 @@ module _ (G : Instance) where
       (λ later. sublist-mem (waiting-sub G (a ∷ agents) items) (cutter-agent most (now .waiting) (now .left) r later))
       (cases-cons m)
 
--- a grade is 1, 2, 3 or 4
-grade-small : (n : ℕ) (valuations : List (List ℕ)) (shares : List ℕ) (bundles : List (List ℕ)) → grade n valuations shares bundles < 10
-unfolding grade
-grade-small n valuations shares bundles = step (envyFree n valuations shares bundles) (proportional n valuations shares bundles) (maximinFair n valuations shares bundles)
-  where
-    step : (a b c : Bool) → cond a 1 (cond b 2 (cond c 3 4)) < 10
-    step true b c = omega arith
-    step false true c = omega arith
-    step false false true = omega arith
-    step false false false = omega arith
-
 module _ (n m : ℕ) (table : List (List ℕ)) (some : 1 ≤ n) where
   abbrev G : Instance
   G = standardInstance n m table
@@ -66,7 +54,7 @@ module _ (n m : ℕ) (table : List (List ℕ)) (some : 1 ≤ n) where
   unfolding profile
   profile-each = length-map (range 1 n) (λ i. allValues m (valuation table i)) ∙ length-range 1 n
 
-  nth-cuts : (i : ℕ) → Mem i (range 1 n) → nth [] (map (maximinPartition n) (profile n m table)) i ≡ maximinPartition n (allValues m (valuation table i))
+  pub nth-cuts : (i : ℕ) → Mem i (range 1 n) → nth [] (map (maximinPartition n) (profile n m table)) i ≡ maximinPartition n (allValues m (valuation table i))
   unfolding profile
   nth-cuts i in-use =
       ap (λ l. nth [] l i) (map-map (maximinPartition n) (λ k. allValues m (valuation table k)) (range 1 n))
@@ -86,7 +74,7 @@ module _ (n m : ℕ) (table : List (List ℕ)) (some : 1 ≤ n) where
         entry-each = λ i in-use. ap length (nth-cuts i in-use) ∙ maximinPartition-within n (allValues m (valuation table i)) some .1 ∙ all-values (valuation table i);
         cutters-within = mem-within n (map (λ r. r .cutter) (allRounds n m G)) cutter-in-range;
         few-cutters = rw (length-map (allRounds n m G) (λ r. r .cutter)) (rounds-few G n (range 1 n) (range 1 m));
-        one-digit = grade-small n (profile n m table) (G .shares) (allocation n m G);
+        one-digit = omega (arith, grade-bounds n (profile n m table) (G .shares) (allocationMargins n m G) (allocation n m G));
       }
     where
       cutter-in-range : (c : ℕ) → Mem c (map (λ r. r .cutter) (allRounds n m G)) → Mem c (range 1 n)

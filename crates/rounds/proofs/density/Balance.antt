@@ -11,7 +11,7 @@ use Rattle.lists.proofs.ranges.Ranges.{range-bounds}
 use Rattle.lists.proofs.sums.LeastOf.{leastOf-le, leastOf-attained}
 use Rattle.cut.specs.Share.{bundleValue, leastBundle, maximinShare, maximinPartition}
 use Rattle.cut.proofs.Laws.{leastBundle-le-maximinShare, maximinPartition-within, leastBundle-maximinPartition}
-use Rattle.rounds.specs.declared.Terms.{Terms}
+use Rattle.margins.specs.declared.Terms.{Terms}
 use Rattle.rounds.proofs.density.Deficit.{deficit, deficit-le-total}
 use Rattle.rounds.proofs.density.Partition.{IsPartition, empty, place, isPartition-length, isPartition-within, within-isPartition}
 use Rattle.rounds.proofs.density.Regroup.{bundleValues, length-bundleValues, refines-bundleValues, total-bundleValues-le}

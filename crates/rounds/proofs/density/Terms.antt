@@ -4,8 +4,9 @@ use Prim.Native.Nat.{ℕ, suc, _+_, _*_, _-_, _/_, _%_, _≤_, _<_}
 use native.Mathlib.Nat.{mul-add, add-mul, suc-mul, mul-assoc, mul-comm, mul-left-comm}
 use native.Mathlib.Nat.{mul-pos, mul-le-mul, mul-le-mul-left, mul-le-mul-right, le-trans, lt-of-le-of-lt, le-of-mul-le-mul-left}
 use native.Mathlib.Omega.{arith}
-use Rattle.rounds.specs.declared.Terms.{Terms}
-use Rattle.rounds.specs.Terms.{largestOdd, termsFor}
+use Rattle.margins.specs.declared.Terms.{Terms}
+use Rattle.margins.specs.Terms.{largestOdd, termsFor}
+use Rattle.margins.proofs.TermsFor.{top-le-bottom}
 
 -- products multiplied out and sorted: what is left is linear in them
 ruleset expand = (mul-add, add-mul, suc-mul, mul-assoc, mul-comm, mul-left-comm)
@@ -25,9 +26,6 @@ bottom N = termsFor N .bottom
 terms-parts : (N : ℕ) → let k = (N - 1) / 2 in (N ≤ 2 * k + 2) × (top N ≡ 2 * (2 * k + 1)) × (bottom N ≡ 2 * (3 * k + 1))
 unfolding termsFor largestOdd
 terms-parts N = omega arith
-
-top-le-bottom : (N : ℕ) → top N ≤ bottom N
-top-le-bottom N = omega (arith, terms-parts N)
 
 bottom-pos : (N : ℕ) → 0 < bottom N
 bottom-pos N = omega (arith, terms-parts N)

@@ -1,9 +1,11 @@
--- Allocations at both sides of the even test, by computation. Assumes nothing.
+-- Allocations at both sides of the even test and of the test of the margins, by computation. Assumes nothing.
 use mathlib.Core.Path.{_≡_, refl}
 use mathlib.Core.List.{List, [], _∷_, map}
 use Prim.Native.Nat.{ℕ}
 use Rattle.sheet.specs.Tables.{profile}
 use Rattle.cut.specs.Share.{maximinShare}
+use Rattle.margins.specs.Terms.{largestOdd, termsFor}
+use Rattle.margins.specs.Margins.{margin}
 use Rattle.grading.specs.Grade.{envyFree, proportional, maximinFair, grade}
 use Rattle.grading.specs.Scale.{gradeByTable}
 
@@ -44,8 +46,22 @@ samples =
       bundles = (1 ∷ []) ∷ (2 ∷ []) ∷ (3 ∷ []) ∷ [];
       grade = 2;
     }
+    -- sheet c: yard 2 holds 3 of a share of 4, and 8 × 3 is just 6 × 4
+    ∷ record {
+      items = 4;
+      rows = (1 ∷ 1 ∷ 1 ∷ 1 ∷ []) ∷ (4 ∷ 4 ∷ 3 ∷ 1 ∷ []) ∷ (1 ∷ 1 ∷ 1 ∷ 1 ∷ []) ∷ [];
+      bundles = (1 ∷ 2 ∷ []) ∷ (3 ∷ []) ∷ (4 ∷ []) ∷ [];
+      grade = 4;
+    }
+    -- the same with items 3 and 4 exchanged: yard 2 holds 1, and 8 × 1 is under 6 × 4
+    ∷ record {
+      items = 4;
+      rows = (1 ∷ 1 ∷ 1 ∷ 1 ∷ []) ∷ (4 ∷ 4 ∷ 3 ∷ 1 ∷ []) ∷ (1 ∷ 1 ∷ 1 ∷ 1 ∷ []) ∷ [];
+      bundles = (1 ∷ 2 ∷ []) ∷ (4 ∷ []) ∷ (3 ∷ []) ∷ [];
+      grade = 5;
+    }
     ∷ []
 
 pub samples-graded : map (λ s. gradeByTable 3 (s .items) (s .rows) (s .bundles)) samples ≡ map (λ s. s .grade) samples
-unfolding samples grade envyFree proportional maximinFair profile maximinShare
+unfolding samples grade envyFree proportional maximinFair profile maximinShare termsFor largestOdd margin
 samples-graded = refl

@@ -1,0 +1,56 @@
+-- The sign of a margin, and its size: what makes 64 bits enough. Assumes nothing.
+use mathlib.Core.Path.{_≡_, refl, sym}
+use mathlib.Core.Bool.{Bool, true, false, cond}
+use Prim.Native.Nat.{ℕ, zero, suc, _*_, _-_, _≤_, _<_}
+use native.Mathlib.Nat.{mul-le-mul}
+use native.Mathlib.Omega.{arith}
+use lib.Dec.{leb, ltb}
+use lib.IntN.{pos, negsuc, _-ℤ_}
+use lib.Signed.{mag, nonNeg}
+use borrow.Author.Tests.{ltb-true, ltb-false, le-leb, lt-leb}
+use Rattle.sheet.specs.Limits.{mostAgents, greatestSum}
+use Rattle.margins.specs.Terms.{termsFor}
+use Rattle.margins.specs.Margins.{margin}
+use Rattle.margins.specs.declared.Terms.{Terms}
+use Rattle.margins.proofs.TermsFor.{top-small, bottom-small}
+
+-- a difference of numbers below H is below H without its sign
+size-by : (a b H : ℕ) → a < H → b ≤ H → (less : Bool) → (less ≡ true → a < b) → mag (cond less (negsuc (b - suc a)) (pos (a - b))) < H
+size-by a b H low high true lt = omega (arith, lt refl)
+size-by a b H low high false lt = omega arith
+
+pub difference-small : (a b H : ℕ) → a < H → b ≤ H → mag (pos a -ℤ pos b) < H
+difference-small a zero H low high = omega arith
+difference-small a (suc b) H low high = size-by a (suc b) H low high (ltb a (suc b)) (ltb-true a (suc b))
+
+-- a difference is not negative exactly where the second number is at most the first
+sign-by : (a b : ℕ) (less : Bool) → ltb a b ≡ less → nonNeg (cond less (negsuc (b - suc a)) (pos (a - b))) ≡ leb b a
+sign-by a b true e = sym (lt-leb b a (ltb-true a b e))
+sign-by a b false e = sym (le-leb b a (ltb-false a b e))
+
+nonNeg-difference : (a b : ℕ) → nonNeg (pos a -ℤ pos b) ≡ leb b a
+nonNeg-difference a zero = sym (le-leb zero a (omega arith))
+nonNeg-difference a (suc b) = sign-by a (suc b) (ltb a (suc b)) refl
+
+-- a margin is not negative exactly where the bundle is worth the part of the share that is promised
+pub nonNeg-margin : (terms : Terms) (worth share : ℕ) → nonNeg (margin terms worth share) ≡ leb (terms .top * share) (terms .bottom * worth)
+unfolding margin
+nonNeg-margin terms worth share = nonNeg-difference (terms .bottom * worth) (terms .top * share)
+
+-- no margin on a sheet has more than so many without its sign
+abbrev pub greatestMargin : ℕ
+greatestMargin = 14 * greatestSum
+
+-- the two products of a margin within the limits of a sheet
+pub held-small : (n worth : ℕ) → n ≤ mostAgents → worth ≤ greatestSum → termsFor n .bottom * worth ≤ greatestMargin
+held-small n worth few small = mul-le-mul (bottom-small n few) small
+
+pub promised-small : (n share : ℕ) → n ≤ mostAgents → share ≤ greatestSum → termsFor n .top * share ≤ greatestMargin
+promised-small n share few small = omega (arith, mul-le-mul (top-small n few) small)
+
+pub margin-small : (n worth share : ℕ) → n ≤ mostAgents → worth ≤ greatestSum → share ≤ greatestSum → mag (margin (termsFor n) worth share) < suc greatestMargin
+unfolding margin
+margin-small n worth share few small-worth small-share =
+    difference-small (termsFor n .bottom * worth) (termsFor n .top * share) (suc greatestMargin)
+    (omega (arith, held-small n worth few small-worth))
+    (omega (arith, promised-small n share few small-share))

@@ -1,0 +1,94 @@
+// The part of its maximin share that each agent is promised, and by how much a bundle is worth more or less than that (the margin).
+ghost use mathlib.Core.Path.{_≡_};
+ghost use Prim.Native.Nat.{min};
+ghost use Rattle.sheet.specs.Limits.{mostAgents, greatestSum};
+ghost use Rattle.margins.specs.Terms.{termsFor};
+ghost use Rattle.margins.specs.Margins.{marginWithin, marginsStored, noneNegative};
+use sheet::Sheet;
+use sheet::amounts::Amounts;
+use sheet::lesser;
+
+// "top" and "bottom" of document 01: the fraction of its maximin share that each agent is promised.
+pub struct Terms {
+    pub top: u64,
+    pub bottom: u64,
+}
+
+// A margin for each agent.
+pub type Margins = [i64; Sheet::AGENTS];
+
+// The row `top` of the table of pairs of document 01, "Rounds", for one agent and more.
+const TOPS: [u64; Sheet::AGENTS] = [2, 2, 6, 6, 10, 10];
+
+// The row `bottom`.
+const BOTTOMS: [u64; Sheet::AGENTS] = [2, 2, 8, 8, 14, 14];
+
+// No sum of the marks of a set is greater.
+const GREATEST_SUM: u64 = Sheet::SET_BITS as u64 * (Sheet::GREATEST_MARK + 1);
+
+// The terms for a number of agents, which is cut to the limit of a sheet; none counts as one.
+pub fn terms_for(agents: usize) -> Terms
+    ensures { λ r. ⌜ r ≡ termsFor (min agents mostAgents) ⌝ }
+{
+    let last = lesser(agents, Sheet::AGENTS);
+    if last == 0 {
+        return Terms { top: 2, bottom: 2 };
+    }
+    let column = last - 1;
+    Terms {
+        top: TOPS[column],
+        bottom: BOTTOMS[column],
+    }
+}
+
+// An amount, or the greatest sum where it is above that.
+fn limited(amount: u64) -> u64
+    ensures { λ r. ⌜ r ≡ min amount greatestSum ⌝ }
+{
+    if amount < GREATEST_SUM {
+        amount
+    } else {
+        GREATEST_SUM
+    }
+}
+
+// The margin of an agent with this worth and share, among so many agents; all three are cut to the limits of a sheet.
+pub fn margin_of(agents: usize, worth: u64, share: u64) -> i64
+    ensures { λ r. ⌜ r ≡ marginWithin agents worth share ⌝ }
+{
+    let terms = terms_for(agents);
+    let held = terms.bottom * limited(worth);
+    let promised = terms.top * limited(share);
+    held as i64 - promised as i64
+}
+
+// The margin of each agent, by its worth and its share; 0 after the last agent.
+pub fn margins_of(agents: usize, worths: Amounts, shares: Amounts) -> Margins
+    ensures { λ r. ⌜ r ≡ marginsStored agents worths shares ⌝ }
+{
+    let last = lesser(agents, Sheet::AGENTS);
+    let mut margins = [0i64; Sheet::AGENTS];
+    let mut i: usize = 0;
+    while i < last {
+        let margin = margin_of(agents, worths[i], shares[i]);
+        margins[i] = margin;
+        i += 1;
+    }
+    margins
+}
+
+// Whether no margin of the first `agents` is negative.
+pub fn none_negative(margins: Margins, agents: usize) -> bool
+    ensures { λ r. ⌜ r ≡ noneNegative (min agents mostAgents) margins ⌝ }
+{
+    let last = lesser(agents, Sheet::AGENTS);
+    let mut i: usize = 0;
+    while i < last {
+        let margin = margins[i];
+        if margin < 0 {
+            return false;
+        }
+        i += 1;
+    }
+    true
+}

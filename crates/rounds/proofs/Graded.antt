@@ -1,0 +1,47 @@
+-- The grade of every division of the box is the first test that it passes; no margin is below zero, so the grade is never 5. Assumes nothing.
+use mathlib.Core.Path.{_≡_, sym, _∙_}
+use mathlib.Core.Bool.{true}
+use mathlib.Core.List.{List}
+use Prim.Native.Nat.{ℕ, _≤_}
+use native.Mathlib.Omega.{arith}
+use lib.Dec.{leb}
+use borrow.Author.Tests.{leb-true}
+use Rattle.sheet.specs.Limits.{CountsWithin}
+use Rattle.sheet.specs.Answers.{accepted}
+use Rattle.sheet.specs.Allocations.{Allocates}
+use Rattle.margins.specs.Terms.{termsFor}
+use Rattle.margins.specs.Margins.{noneNegative}
+use Rattle.grading.specs.Scale.{passes}
+use Rattle.grading.proofs.Scale.{passes-from-grade}
+use Rattle.rounds.specs.Division.{Division, divisionOf, answer}
+use Rattle.rounds.proofs.density.Terms.{termsFor-allowed}
+use Rattle.rounds.proofs.Allocation.{allocation-noneNegative, allocation-allocates}
+use Rattle.rounds.proofs.Answers.{answer-accepted}
+
+-- the box's division of a table: n agents (yards), m items (pieces) and any marks
+module _ (n m : ℕ) (table : List (List ℕ)) (d : Division) (divided : answer n m table ≡ accepted d) where
+  within : CountsWithin n m
+  within = answer-accepted n m table d divided .1
+
+  -- each item is in one bundle
+  pub division-allocates : Allocates n m (d .bundles)
+  unfolding divisionOf
+  division-allocates = rw (answer-accepted n m table d divided .0) (allocation-allocates n m (termsFor n) table (termsFor-allowed n) (within .some))
+
+  -- it passes the test for g exactly where its grade is at most g
+  pub division-passes : (g : ℕ) → 1 ≤ g → passes n m table (d .bundles) g ≡ leb (d .grade) g
+  unfolding divisionOf
+  division-passes g some = passes-from-grade n m table (d .bundles) division-allocates g some ∙ rw (answer-accepted n m table d divided .0)
+
+  -- "every margin to be zero or more"
+  pub no-margin-negative : noneNegative n (d .margins) ≡ true
+  unfolding divisionOf
+  no-margin-negative = rw (answer-accepted n m table d divided .0) (allocation-noneNegative n m (termsFor n) table (termsFor-allowed n))
+
+  passes-4 : passes n m table (d .bundles) 4 ≡ true
+  unfolding divisionOf
+  passes-4 = rw (answer-accepted n m table d divided .0) (allocation-noneNegative n m (termsFor n) table (termsFor-allowed n))
+
+  -- demand 3 leaves no division of the box "the rest"
+  pub never-graded-5 : d .grade ≤ 4
+  never-graded-5 = leb-true (d .grade) 4 (sym (division-passes 4 (omega arith)) ∙ passes-4)
