@@ -1,6 +1,10 @@
 -- What readers of forms and numbers read.
 pub mod Same
 pub mod Numbers
+pub mod Tested
+pub mod Decimal
 pub mod Follow
 pub mod InTurn
 pub mod AlsoReads
+pub mod Written
+pub mod Bounds

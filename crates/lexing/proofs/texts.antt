@@ -7,5 +7,7 @@ pub mod Lexing
 pub mod NextToken
 pub mod HaveBytes
 pub mod Parts
+pub mod BehindLine
+pub mod Numbers
 pub mod Alike
 pub mod Respaced

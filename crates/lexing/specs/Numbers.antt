@@ -40,3 +40,9 @@ number most ts = cond (isNumber most (first ts)) (some (digitsAfter 0 (first ts)
 -- a form, and then a number
 unfoldable pub numberAfter : List Token → ℕ → List Token → Option (ℕ × List Token)
 numberAfter fs most ts = follow fs ts >>= number most
+
+-- a form, and then just this number: the tokens after it
+abbrev pub followNumber : List Token → ℕ → ℕ → List Token → Option (List Token)
+followNumber fs most n ts₀ = do
+  (k, ts₁) ← numberAfter fs most ts₀
+  cond (eqb k n) (some ts₁) none

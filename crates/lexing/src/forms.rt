@@ -5,7 +5,7 @@ ghost use lib.ListN.{length};
 ghost use Rattle.lexing.specs.Tokens.{tokens};
 ghost use Rattle.lexing.specs.Forms.{same};
 ghost use Rattle.lexing.specs.Forms;
-ghost use Rattle.lexing.specs.Numbers.{longestNumber, number, numberAfter};
+ghost use Rattle.lexing.specs.Numbers.{longestNumber, number, numberAfter, followNumber};
 ghost use Rattle.lexing.specs.Places.{tokensAt};
 ghost use Rattle.lexing.specs.Results.{Follows, ReadsNumber};
 ghost use Rattle.lexing.specs.internal.Lexed.{bytesOf};
@@ -82,4 +82,18 @@ pub fn number_after(s: &[u8], c: Cursor, form: &[u8], most: usize) -> Number
         return Number::Missed;
     };
     read_number(s, next, most)
+}
+
+// The place after a form's text and just the number `n`, in one to `most` digits, of which no more than 19 are read.
+pub fn follow_number(s: &[u8], c: Cursor, form: &[u8], most: usize, n: usize) -> Followed
+    ensures { λ r. ⌜ Follows (now (s .entry)) r (followNumber (tokens (now (form .entry))) (min most longestNumber) n (tokensAt (now (s .entry)) c)) ⌝ }
+{
+    let Number::Value(k, next) = number_after(s, c, form, most) else {
+        return Followed::Missed;
+    };
+    if k as usize == n {
+        Followed::At(next)
+    } else {
+        Followed::Missed
+    }
 }

@@ -1,5 +1,5 @@
--- Sample sheet a of document 01, of its sample j, as order 3 of document 02 has it, all but the text of 4,097 bytes, and texts as order 1
--- has them, by computation. Assumes nothing.
+-- Sample sheet a of document 01, of its sample j, as order 3 of document 02 has it, all but the text of 4,097 bytes, texts as order 1 has
+-- them, and sheets before another text as order 5 has them, by computation. Assumes nothing.
 use mathlib.Core.Path.{_≡_, refl}
 use mathlib.Core.List.{List, [], _∷_, _++_, map, flatMap}
 use lib.ListN.{replicate}
@@ -9,11 +9,11 @@ use Rattle.sheet.specs.Limits.{earlierMarkLimits}
 use Rattle.sheet.specs.Answers.{Answer, refused, accepted}
 use Rattle.text.specs.Bytes.{bytes}
 use Rattle.lexing.specs.Lines.{space, onFirst, lines, beforeRemark}
-use Rattle.lexing.specs.Tokens.{extended, words, lineTokens, tokens}
-use Rattle.lexing.specs.Forms.{follow, inTurn}
+use Rattle.lexing.specs.Tokens.{Token, extended, words, lineTokens, tokens}
+use Rattle.lexing.specs.Forms.{form, follow, inTurn}
 use Rattle.lexing.specs.Numbers.{numberAfter, number, digitsAfter, isNumber}
 use Rattle.reading.specs.Grammar.{endLine, yardLine, yardTurn, head}
-use Rattle.reading.specs.Reading.{Contents, readingWithin, reading, tableOf}
+use Rattle.reading.specs.Reading.{Contents, readingWithin, reading, readingFront, tableOf}
 
 -- the contents of a text with these counts and these rows of marks
 abbrev contents : ℕ → ℕ → List (List ℕ) → Answer Contents
@@ -80,3 +80,17 @@ spaced n = bytes "(sheet (yards 2) (pieces 3))\n(yard 1 (marks 5 3 4))\n(yard 2 
 pub bytes-counted-as-typed : map reading (spaced 4015 ∷ spaced 4016 ∷ []) ≡ contents 2 3 ((5 ∷ 3 ∷ 4 ∷ []) ∷ (6 ∷ 2 ∷ 2 ∷ []) ∷ []) ∷ refused 1 ∷ []
 unfolding reading endLine yardLine yardTurn head numberAfter number digitsAfter isNumber follow inTurn onFirst lines beforeRemark extended words lineTokens tokens flatMap
 bytes-counted-as-typed = refl
+
+-- sheets with another text behind them, each with what reading answers as a sheet, and as a sheet before another text
+abbrev pub followed : List (String × Answer Contents × Answer (Contents × List Token))
+followed =
+    ("(sheet (yards 1) (pieces 1))\n(yard 1 (marks 5))\n(end)\n(worth 5) ; more\n", refused 7, accepted (record { agents = 1; items = 1; table = tableOf ((5 ∷ []) ∷ []) }, form "(worth 5)\n"))
+    ∷ ("(sheet (yards 1) (pieces 1))\n(yard 1 (marks 4294967296))\n(end)\n(worth 5)\n", refused 7, refused 8)
+    ∷ ("(sheet (yards 1) (pieces 1))\n(yard 1 (marks 5))\n(end) (worth 5)\n", refused 7, refused 7)
+    ∷ ("(sheet (yards 1) (pieces 1))\n(yard 1 (marks 5))\n(worth 5)\n(end)\n", refused 7, refused 7)
+    ∷ ("(sheet (yards 1) (pieces 1))\n(worth 5)\n", refused 6, refused 6)
+    ∷ []
+
+pub followed-read : map (λ p. (p .0, reading (bytes (p .0)), readingFront (bytes (p .0)))) followed ≡ followed
+unfolding reading readingFront endLine yardLine yardTurn head numberAfter number digitsAfter isNumber follow inTurn onFirst lines beforeRemark extended words lineTokens tokens flatMap
+followed-read = refl

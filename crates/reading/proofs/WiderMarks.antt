@@ -17,7 +17,7 @@ use Rattle.lexing.proofs.readers.AlsoReads.{AlsoReads, also-itself, then-also, 
 use Rattle.reading.specs.SheetForms.{lineEnd}
 use Rattle.reading.specs.Grammar.{marks, yardTurn, yardLine, yardLines}
 use Rattle.reading.specs.Reading.{Contents, allowed, allowedRow, readingWithin, reading}
-use Rattle.reading.proofs.Accepted.{accepted-passes, passes-accepted}
+use Rattle.reading.proofs.Accepted.{sheet-passes, passes-sheet}
 
 -- what is read with fewer digits to a mark is read with more
 module _ (digits digits′ : ℕ) (more : digits ≤ digits′) where
@@ -42,8 +42,8 @@ row-allowed-also greatest greatest′ greater =
 pub accepted-within-wider : (limits wider : MarkLimits) → limits .greatest ≤ wider .greatest → limits .digits ≤ wider .digits
     → (text : List ℕ) (c : Contents) → readingWithin limits text ≡ accepted c → readingWithin wider text ≡ accepted c
 accepted-within-wider limits wider greater more text c e =
-    let a = accepted-passes limits text c e in
-    passes-accepted wider text c
+    let a = sheet-passes limits text c e in
+    passes-sheet wider text c
     (record {
       short = a .short;
       some-byte = a .some-byte;

@@ -2,12 +2,11 @@
 use Prim.Native.Nat.{ℕ}
 use mathlib.Core.List.{List}
 use mathlib.Core.Option.{Option, none, some}
-use mathlib.Core.Bool.{Bool, false, cond}
-use lib.Dec.{eqb}
+use mathlib.Core.Bool.{Bool, true, cond}
 use Rattle.sheet.specs.Limits.{countDigits}
 use Rattle.lexing.specs.Tokens.{Token}
-use Rattle.lexing.specs.Forms.{_>>=_, ended, follow, form, inTurn}
-use Rattle.lexing.specs.Numbers.{number, numberAfter}
+use Rattle.lexing.specs.Forms.{_>>=_, follow, form, inTurn}
+use Rattle.lexing.specs.Numbers.{number, numberAfter, followNumber}
 use Rattle.reading.specs.SheetForms.{beforeAgents, beforeItems, beforeTurn, beforeMarks, lineEnd, lastLine}
 
 -- "The first line gives the counts": (sheet (yards 2) (pieces 3))
@@ -25,9 +24,8 @@ marks digits items ts = inTurn (λ piece. number digits) 1 items ts
 -- the number of a yard line, in its turn: (yard 1 (marks
 unfoldable pub yardTurn : ℕ → List Token → Option (List Token)
 yardTurn turn ts₀ = do
-  (k, ts₁) ← numberAfter (form beforeTurn) countDigits ts₀
-  ts₂ ← cond (eqb k turn) (some ts₁) none
-  follow (form beforeMarks) ts₂
+  ts₁ ← followNumber (form beforeTurn) countDigits turn ts₀
+  follow (form beforeMarks) ts₁
 
 -- the line of one yard: (yard 1 (marks 5 3 4))
 unfoldable pub yardLine : ℕ → ℕ → ℕ → List Token → Option (List ℕ × List Token)
@@ -41,11 +39,12 @@ yardLine digits items turn ts₀ = do
 abbrev pub yardLines : ℕ → ℕ → ℕ → List Token → Option (List (List ℕ) × List Token)
 yardLines digits agents items ts = inTurn (yardLine digits items) 1 agents ts
 
--- whether something was followed to the end of the text
-abbrev pub endedAfter : Option (List Token) → Bool
-endedAfter none = false
-endedAfter (some ts) = ended ts
+-- what may stand behind the line `(end)` of a sheet that another text follows: anything
+abbrev pub anything : List Token → Bool
+anything ts = true
 
--- "the line `(end)` and the end of the text"
-unfoldable pub endLine : List Token → Bool
-endLine ts = endedAfter (follow (form lastLine) ts)
+-- the line `(end)`, and behind it tokens that may stand there
+unfoldable pub endLine : (List Token → Bool) → List Token → Option (List Token)
+endLine mayFollow ts₀ = do
+  ts₁ ← follow (form lastLine) ts₀
+  cond (mayFollow ts₁) (some ts₁) none

@@ -1,12 +1,18 @@
 -- How the code's outcome stands for each case of what reading a text answers. Assumes nothing: these are definitions.
+use mathlib.Core.Path.{_≡_}
 use mathlib.Core.List.{List, map}
-use Prim.Native.Nat.{ℕ}
+use Prim.Native.Nat.{ℕ, _≤_}
+use lib.ListN.{length}
 use Rattle.sheet.specs.Limits.{blankTable}
 use Rattle.sheet.specs.Answers.{Answer, refused, accepted}
-use Rattle.reading.specs.Reading.{Contents}
+use Rattle.lexing.specs.Tokens.{Token}
+use Rattle.lexing.specs.Places.{tokensAt, start}
+use Rattle.lexing.specs.declared.tokens.Cursor.{Cursor}
+use Rattle.reading.specs.Reading.{Contents, sheetOf}
 use Rattle.reading.specs.declared.Answer.the-variants.{Refused, Accepted}
 use Rattle.reading.specs.declared.Valuation.{Valuation}
 use Rattle.reading.specs.declared.Outcome.{Outcome}
+use Rattle.reading.specs.declared.Front.{Front}
 
 -- a row of marks as one agent's valuation
 abbrev pub valuation : List ℕ → Valuation
@@ -20,3 +26,13 @@ outcome (accepted c) = record { answer = Accepted (record { agents = c .agents; 
 -- the table that rows make
 abbrev pub tableIn : List Valuation → List (List ℕ)
 tableIn rows = map (λ v. v .marks) rows
+
+-- the place where another text begins: before the tokens behind the sheet, inside the text; its start, where it is refused
+abbrev pub LeavesOff : List ℕ → Cursor → Answer (Contents × List Token) → Type 0
+LeavesOff s c (refused number) = c ≡ start
+LeavesOff s c (accepted (sheet, ts)) = (c .at ≤ length s) × (tokensAt s c ≡ ts)
+
+-- the outcome of the sheet at the front of a text, and the place behind it
+pub record ReadsFront (s : List ℕ) (r : Front) (a : Answer (Contents × List Token)) : Type 0 where
+  pub sheet-read : r .outcome ≡ outcome (sheetOf a)
+  pub left-off : LeavesOff s (r .next) a

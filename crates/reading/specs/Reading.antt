@@ -1,5 +1,5 @@
 -- What reading a text answers: the number of a refusal, or the counts and the table of marks (document 01, "Reasons to turn a sheet
--- down", 1 to 8). Assumes nothing: these are definitions.
+-- down", 1 to 8), of a sheet alone and of a sheet with another text behind it. Assumes nothing: these are definitions.
 use mathlib.Core.List.{List, map}
 use mathlib.Core.Bool.{Bool}
 use Prim.Native.Nat.{ℕ}
@@ -7,9 +7,10 @@ use lib.ListN.{length}
 use lib.Dec.{leb, ltb}
 use Rattle.lists.specs.Lists.{padded, all}
 use Rattle.sheet.specs.Limits.{MarkLimits, mostAgents, mostItems, markLimits, longestText, within, blankRow}
-use Rattle.sheet.specs.Answers.{Answer, accepted, require, requireSome}
-use Rattle.lexing.specs.Tokens.{tokens}
-use Rattle.reading.specs.Grammar.{head, yardLines, endLine}
+use Rattle.sheet.specs.Answers.{Answer, accepted, require, andThen, requireSome}
+use Rattle.lexing.specs.Tokens.{Token, tokens}
+use Rattle.lexing.specs.Forms.{ended}
+use Rattle.reading.specs.Grammar.{head, yardLines, anything, endLine}
 
 -- what an accepted text carries: the counts and the table of marks
 pub record Contents : Type 0 where
@@ -35,20 +36,34 @@ tableOf rows = padded mostAgents blankRow (map (padded mostItems 0) rows)
 -- 4: "The number of yards .. lies outside 1 to 6"
 -- 5: "The number of pieces lies outside 1 to 12"
 -- 6: "One of the lines due for the yards is missing, malformed, out of turn, or has another count of marks than the pieces"
--- 7: "After the yard lines stands anything but the line `(end)` and the end of the text"
+-- 7: "After the yard lines stands anything but the line `(end)` and the end of the text", or what else may stand behind that line
 -- 8: "A mark is above" the greatest
-abbrev pub readingWithin : MarkLimits → List ℕ → Answer Contents
-readingWithin limits text =
+-- A text that is accepted carries, besides its sheet, the tokens behind the line `(end)`.
+abbrev pub sheetAtFront : MarkLimits → (List Token → Bool) → List ℕ → Answer (Contents × List Token)
+sheetAtFront limits mayFollow text =
     require 1 (leb (length text) longestText)
     (require 2 (ltb 0 (length text))
     (requireSome 3 (head (tokens text)) (λ (agents, items, ts₁).
     require 4 (within mostAgents agents)
     (require 5 (within mostItems items)
     (requireSome 6 (yardLines (limits .digits) agents items ts₁) (λ (rows, ts₂).
-    require 7 (endLine ts₂)
-    (require 8 (all (allowedRow (limits .greatest)) rows)
-    (accepted (record { agents = agents; items = items; table = tableOf rows })))))))))
+    requireSome 7 (endLine mayFollow ts₂) (λ ts₃.
+    require 8 (all (allowedRow (limits .greatest)) rows)
+    (accepted (record { agents = agents; items = items; table = tableOf rows }, ts₃)))))))))
+
+-- the sheet alone of what is read
+abbrev pub sheetOf : Answer (Contents × List Token) → Answer Contents
+sheetOf a = andThen a (λ (c, ts). accepted c)
+
+-- a text that is a sheet: behind the line `(end)` stands "the end of the text"
+abbrev pub readingWithin : MarkLimits → List ℕ → Answer Contents
+readingWithin limits text = sheetOf (sheetAtFront limits ended text)
 
 -- the limits of a mark are those of order 3 of document 02
 unfoldable pub reading : List ℕ → Answer Contents
 reading text = readingWithin markLimits text
+
+-- a sheet with another text behind it (document 02, order 5): "a sheet through its `(end)` line (in this reading refusal 7 is given only
+-- where that line does not follow the yard lines)"
+unfoldable pub readingFront : List ℕ → Answer (Contents × List Token)
+readingFront text = sheetAtFront markLimits anything text

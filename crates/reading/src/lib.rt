@@ -1,8 +1,11 @@
 // Reading a sheet of marks from bytes: the refusal's number, or the counts, and the table of marks.
 ghost use mathlib.Core.Path.{_≡_};
 ghost use Rattle.sheet.specs.Answers;
-ghost use Rattle.reading.specs.Reading.{reading};
-ghost use Rattle.reading.specs.Outcome.{outcome, tableIn};
+ghost use Rattle.sheet.specs.Limits.{markLimits};
+ghost use Rattle.lexing.specs.Places.{start};
+ghost use Rattle.reading.specs.Reading.{sheetAtFront, reading, readingFront};
+ghost use Rattle.reading.specs.Outcome.{outcome, tableIn, ReadsFront};
+ghost use Rattle.reading.specs.internal.Alone.{mayFollow};
 ghost use Rattle.reading.specs.internal.Kept.{blankRows};
 use lexing::tokens::Cursor;
 use lines::Head;
@@ -31,6 +34,12 @@ pub struct Outcome {
     pub rows: [Valuation; Sheet::AGENTS],
 }
 
+// The outcome of the sheet at the front of a text, and the place behind its last line, or the start of a text that is refused.
+pub struct Front {
+    pub outcome: Outcome,
+    pub next: Cursor,
+}
+
 // The table of these rows: a struct cannot hold it as an array of arrays.
 pub fn table(rows: [Valuation; Sheet::AGENTS]) -> Table
     ensures { λ r. ⌜ r ≡ tableIn rows ⌝ }
@@ -56,19 +65,23 @@ pub(crate) fn blank_rows() -> [Valuation; Sheet::AGENTS]
     [blank; Sheet::AGENTS]
 }
 
-// The outcome of a refusal.
-fn refused(number: u8) -> Outcome
-    ensures { λ r. ⌜ r ≡ outcome (Answers.refused number) ⌝ }
+// What a refusal gives.
+fn refused(number: u8) -> Front
+    ensures { λ r. ⌜ (r .outcome ≡ outcome (Answers.refused number)) × (r .next ≡ start) ⌝ }
 {
-    Outcome {
+    let outcome = Outcome {
         answer: Answer::Refused(number),
         rows: blank_rows(),
+    };
+    Front {
+        outcome,
+        next: Cursor::start(),
     }
 }
 
-// The first reason to refuse a text, or the counts and the rows of the sheet that it holds.
-pub fn read(text: &[u8]) -> Outcome
-    ensures { λ r. ⌜ r ≡ outcome (reading (now (text .entry))) ⌝ }
+// The first reason to refuse a text, or the counts and the rows of the sheet at its front, which may have to stand alone.
+fn sheet_at_front(text: &[u8], alone: bool) -> Front
+    ensures { λ r. ⌜ ReadsFront (now (text .entry)) r (sheetAtFront markLimits (mayFollow alone) (now (text .entry))) ⌝ }
 {
     if Sheet::LONGEST_TEXT < text.len() {
         return refused(1);
@@ -90,7 +103,8 @@ pub fn read(text: &[u8]) -> Outcome
         return refused(6);
     }
     let last = lines.next;
-    let ended = lines::end_line(text, last);
+    let end = lines::end_line(text, last, alone);
+    let ended = end.read;
     let allowed = lines.allowed;
     if !ended {
         return refused(7);
@@ -99,8 +113,25 @@ pub fn read(text: &[u8]) -> Outcome
         return refused(8);
     }
     let rows = lines.rows;
-    Outcome {
+    let next = end.next;
+    let outcome = Outcome {
         answer: Answer::Accepted(Sheet { agents, items }),
         rows,
-    }
+    };
+    Front { outcome, next }
+}
+
+// The first reason to refuse a text, or the counts and the rows of the sheet that it holds.
+pub fn read(text: &[u8]) -> Outcome
+    ensures { λ r. ⌜ r ≡ outcome (reading (now (text .entry))) ⌝ }
+{
+    let front = sheet_at_front(text, true);
+    front.outcome
+}
+
+// The same of a text that goes on behind the line `(end)` of its sheet, and where it does.
+pub fn read_front(text: &[u8]) -> Front
+    ensures { λ r. ⌜ ReadsFront (now (text .entry)) r (readingFront (now (text .entry))) ⌝ }
+{
+    sheet_at_front(text, false)
 }

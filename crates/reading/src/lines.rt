@@ -6,8 +6,9 @@ ghost use Rattle.sheet.specs.Limits.{mostAgents, mostItems, markDigits};
 ghost use Rattle.lexing.specs.Places.{tokensAt};
 ghost use Rattle.lexing.specs.Results.{Follows};
 ghost use Rattle.reading.specs.Grammar.{head, marks, yardTurn, yardLine, yardLines, endLine};
+ghost use Rattle.reading.specs.internal.Alone.{mayFollow};
 ghost use Rattle.reading.specs.internal.Kept.{keptMarks, keptLines};
-ghost use Rattle.reading.specs.internal.Results.{ReadsHead, ReadsLine, ReadsLines};
+ghost use Rattle.reading.specs.internal.Results.{ReadsHead, ReadsLine, ReadsLines, ReadsEnd};
 use crate::Valuation;
 use crate::blank_rows;
 use crate::forms::BEFORE_AGENTS;
@@ -19,6 +20,7 @@ use crate::forms::LINE_END;
 use lexing::forms::Followed;
 use lexing::forms::Number;
 use lexing::forms::follow;
+use lexing::forms::follow_number;
 use lexing::forms::number_after;
 use lexing::forms::read_number;
 use lexing::tokens::Cursor;
@@ -49,6 +51,12 @@ pub struct Lines {
     pub read: bool,
     pub allowed: bool,
     pub rows: [Valuation; Sheet::AGENTS],
+    pub next: Cursor,
+}
+
+// Whether the line `(end)` stands as it should, and the place after it.
+pub struct End {
+    pub read: bool,
     pub next: Cursor,
 }
 
@@ -117,14 +125,10 @@ fn read_marks(s: &[u8], c: Cursor, items: usize) -> Line
 fn yard_in_turn(s: &[u8], c: Cursor, turn: usize) -> Followed
     ensures { λ r. ⌜ Follows (now (s .entry)) r (yardTurn turn (tokensAt (now (s .entry)) c)) ⌝ }
 {
-    let Number::Value(k, next) = number_after(s, c, &BEFORE_TURN, Sheet::COUNT_DIGITS) else {
+    let Followed::At(next) = follow_number(s, c, &BEFORE_TURN, Sheet::COUNT_DIGITS, turn) else {
         return Followed::Missed;
     };
-    if k as usize == turn {
-        follow(s, next, &BEFORE_MARKS)
-    } else {
-        Followed::Missed
-    }
+    follow(s, next, &BEFORE_MARKS)
 }
 
 // (yard 1 (marks 5 3 4))
@@ -182,12 +186,25 @@ pub(crate) fn yard_lines(s: &[u8], c: Cursor, agents: usize, items: usize) -> Li
     }
 }
 
-// Whether the line `(end)` and the end of the text stand here.
-pub(crate) fn end_line(s: &[u8], c: Cursor) -> bool
-    ensures { λ r. ⌜ r ≡ endLine (tokensAt (now (s .entry)) c) ⌝ }
+// Whether what stands here may stand behind a sheet: nothing, behind one that is to stand alone.
+fn may_follow(s: &[u8], c: Cursor, alone: bool) -> bool
+    ensures { λ r. ⌜ r ≡ mayFollow alone (tokensAt (now (s .entry)) c) ⌝ }
 {
-    let Followed::At(c1) = follow(s, c, &LAST_LINE) else {
-        return false;
+    if alone { ended(s, c) } else { true }
+}
+
+// The line `(end)`, with what may stand behind it.
+pub(crate) fn end_line(s: &[u8], c: Cursor, alone: bool) -> End
+    ensures { λ r. ⌜ ReadsEnd (now (s .entry)) r (endLine (mayFollow alone) (tokensAt (now (s .entry)) c)) ⌝ }
+{
+    let Followed::At(next) = follow(s, c, &LAST_LINE) else {
+        return End {
+            read: false,
+            next: Cursor::start(),
+        };
     };
-    ended(s, c1)
+    End {
+        read: may_follow(s, next, alone),
+        next,
+    }
 }

@@ -1,51 +1,16 @@
 -- Every accepted text is printed into a buffer that is long enough for every division. Assumes nothing.
 use mathlib.Core.Path.{_≡_, ap, _∙_}
-use mathlib.Core.Bool.{true, and-eq-true-iff}
-use mathlib.Core.List.{List, [], _∷_, _++_, map}
-use Prim.Native.Nat.{ℕ, zero, suc, _-_, _≤_}
-use native.Mathlib.Omega.{arith}
-use lib.ListN.{length, getD, replicate}
-use borrow.Author.Tests.{leb-true}
-use Rattle.lists.specs.Lists.{zeros, padded, all}
-use Rattle.lists.proofs.places.Zeros.{getD-zeros}
-use Rattle.sheet.specs.Limits.{mostAgents, mostItems, greatestMark, blankRow}
+use mathlib.Core.List.{List}
+use Prim.Native.Nat.{ℕ, _≤_}
 use Rattle.sheet.specs.Answers.{accepted, andThen}
-use Rattle.sheet.specs.Valuations.{itemValue}
-use Rattle.sheet.specs.Tables.{valuation}
-use Rattle.reading.specs.Reading.{Contents, reading, allowed, allowedRow, tableOf}
+use Rattle.reading.specs.Reading.{Contents, reading}
 use Rattle.reading.proofs.Accepted.{accepted-text, accepted-counts}
+use Rattle.reading.proofs.SmallMarks.{table-small}
 use Rattle.rounds.specs.Division.{divisionByRounds}
 use Rattle.printing.specs.Printed.{printed}
 use Rattle.printing.specs.Printing.{longestPrinted, printing}
 use Rattle.printing.proofs.printed.Longest.{printing-within-limits}
 use Rattle.sheet_to_division.specs.ShareOut.{shareOut}
-
--- no mark of a row is above the greatest
-Small : List ℕ → Type 0
-Small row = (k : ℕ) → getD row k 0 ≤ greatestMark
-
-row-small : (row : List ℕ) (n : ℕ) → allowedRow greatestMark row ≡ true → Small (row ++ zeros n)
-unfolding Small
-row-small [] n each k = omega (arith, getD-zeros n k)
-row-small (mark ∷ row) n each zero = leb-true mark greatestMark (and-eq-true-iff (allowed greatestMark mark) (allowedRow greatestMark row) .0 each .0)
-row-small (mark ∷ row) n each (suc k) = row-small row n (and-eq-true-iff (allowed greatestMark mark) (allowedRow greatestMark row) .0 each .1) k
-
-blank-small : (n i : ℕ) → Small (getD (replicate n blankRow) i [])
-unfolding Small
-blank-small zero i k = omega arith
-blank-small (suc n) zero k = omega (arith, getD-zeros mostItems k)
-blank-small (suc n) (suc i) k = blank-small n i k
-
-rows-small : (rows : List (List ℕ)) (n i : ℕ) → all (allowedRow greatestMark) rows ≡ true → Small (getD (map (padded mostItems 0) rows ++ replicate n blankRow) i [])
-rows-small [] n i each = blank-small n i
-rows-small (row ∷ rows) n zero each = row-small row (mostItems - length row) (and-eq-true-iff (allowedRow greatestMark row) (all (allowedRow greatestMark) rows) .0 each .0)
-rows-small (row ∷ rows) n (suc i) each = rows-small rows n i (and-eq-true-iff (allowedRow greatestMark row) (all (allowedRow greatestMark) rows) .0 each .1)
-
--- the marks of a table that is read
-small : (rows table : List (List ℕ)) → table ≡ tableOf rows → all (allowedRow greatestMark) rows ≡ true → (i k : ℕ) → itemValue (valuation table i) k ≤ greatestMark
-unfolding Small
-small rows table full each i k =
-    omega (arith, ap (λ t. itemValue (valuation t i) k) full, rows-small rows (mostAgents - length (map (padded mostItems 0) rows)) (i - 1) each (k - 1))
 
 -- every accepted text gets its division: it is never refused with a buffer of `longestPrinted` bytes
 pub accepted-printed : (s : List ℕ) (room : ℕ) (sheet : Contents) → reading s ≡ accepted sheet → longestPrinted ≤ room
@@ -56,4 +21,4 @@ accepted-printed s room sheet read enough =
     ap (λ a. andThen a (λ c. printing (c .agents) (c .items) (c .table) room)) read
     ∙ printing-within-limits (sheet .agents) (sheet .items) (sheet .table) room
     (accepted-counts s sheet read)
-    (small (told .rows) (sheet .table) (told .table-is) (told .marks-allowed)) enough
+    (table-small (told .rows) (sheet .table) (told .table-is) (told .marks-allowed)) enough

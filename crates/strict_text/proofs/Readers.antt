@@ -1,8 +1,8 @@
 -- What a reader has read is written by the tokens that it took: each reader of the grammar inverted. Assumes nothing.
 use mathlib.Core.Path.{_≡_, refl, sym, ap, ap₂, _∙_}
-use mathlib.Core.List.{List, [], _∷_, _++_, map, append-assoc, append-nil}
+use mathlib.Core.List.{List, [], _∷_, _++_, map, append-assoc}
 use mathlib.Core.Option.{Option, none, some, Option·some-injective, Option·none-ne-some}
-use mathlib.Core.Bool.{Bool, true, false, cond, and-eq-true-iff, false≢true}
+use mathlib.Core.Bool.{Bool, true, false, and-eq-true-iff, false≢true}
 use Prim.Native.Nat.{ℕ, zero, suc, _+_}
 use lib.Dec.{eqb}
 use borrow.Author.Tests.{eqb-true}
@@ -12,13 +12,14 @@ use Rattle.text.specs.Decimal.{decimal}
 use Rattle.lexing.specs.Tokens.{Token}
 use Rattle.sheet.specs.Limits.{countDigits}
 use Rattle.lexing.specs.Forms.{_>>=_, same, form, follow, inTurn}
-use Rattle.lexing.specs.Numbers.{isNumber, digitsAfter, number, numberAfter}
+use Rattle.lexing.specs.Numbers.{isNumber, digitsAfter, number, numberAfter, followNumber}
 use Rattle.reading.specs.SheetForms.{beforeAgents, beforeItems, beforeTurn, beforeMarks, lineEnd, lastLine}
-use Rattle.reading.specs.Grammar.{head, marks, yardTurn, yardLine, yardLines, endedAfter, endLine}
+use Rattle.reading.specs.Grammar.{head, marks, yardTurn, yardLine, yardLines}
 use Rattle.strict_text.proofs.SheetTokens.{headTokens, tokensInTurn, turnTokens, yardTokens, yardsTokens}
 use Rattle.lexing.proofs.readers.Same.{same-true}
+use Rattle.lexing.proofs.readers.Tested.{passed}
+use Rattle.lexing.proofs.readers.Decimal.{decimal-of-value}
 use Rattle.lexing.proofs.texts.HaveBytes.{hasByte, tokens-have-bytes}
-use Rattle.strict_text.proofs.Decimal.{decimal-of-value}
 
 -- what two readers, one after the other, have read
 record Bound {A B : Type 0} (o : Option A) (f : A → Option B) (b : B) : Type 0 where
@@ -29,10 +30,6 @@ record Bound {A B : Type 0} (o : Option A) (f : A → Option B) (b : B) : Type 0
 bound : {A B : Type 0} (o : Option A) (f : A → Option B) (b : B) → (o >>= f) ≡ some b → Bound o f b
 bound none f b e = absurd (Option·none-ne-some b e)
 bound (some a) f b e = record { first = a; first-read = refl; then-read = e }
-
-passed : {A : Type 0} (test : Bool) (a b : A) → cond test (some a) none ≡ some b → (test ≡ true) × (a ≡ b)
-passed true a b e = (refl, Option·some-injective a b e)
-passed false a b e = absurd (Option·none-ne-some b e)
 
 -- the parts of what was read
 two-read : {A B : Type 0} (a : A) (b : B) (r : A × B) → some (a, b) ≡ some r → (a ≡ r .0) × (b ≡ r .1)
@@ -66,6 +63,13 @@ unfolding numberAfter
 numberAfter-inverse fs most ts r t e =
     let a = bound (follow fs ts) (number most) r e in
     follow-inverse fs ts (a .first) t (a .first-read) ∙ ap (λ l. fs ++ l) (number-inverse most (a .first) r (a .then-read))
+
+followNumber-inverse : (fs : List Token) (most n : ℕ) (ts ts′ : List Token) → all hasByte fs ≡ true → followNumber fs most n ts ≡ some ts′
+    → ts ≡ fs ++ decimal n ∷ ts′
+followNumber-inverse fs most n ts ts′ t e =
+    let a = bound (numberAfter fs most ts) _ ts′ e in
+    let test = passed (eqb (a .first .0) n) (a .first .1) ts′ (a .then-read) in
+    numberAfter-inverse fs most ts (a .first) t (a .first-read) ∙ ap₂ (λ k l. fs ++ decimal k ∷ l) (eqb-true (a .first .0) n (test .0)) (test .1)
 
 pub head-inverse : (ts : List Token) (r : ℕ × ℕ × List Token) → head ts ≡ some r → ts ≡ headTokens (r .0) (r .1) ++ r .2
 unfolding head headTokens
@@ -108,12 +112,9 @@ marks-inverse digits n ts r e =
 yardTurn-inverse : (turn : ℕ) (ts ts′ : List Token) → yardTurn turn ts ≡ some ts′ → ts ≡ turnTokens turn ++ ts′
 unfolding yardTurn turnTokens
 yardTurn-inverse turn ts ts′ e =
-    let yard = bound (numberAfter (form beforeTurn) countDigits ts) _ ts′ e in
-    let turned = bound (cond (eqb (yard .first .0) turn) (some (yard .first .1)) none) _ ts′ (yard .then-read) in
-    let test = passed (eqb (yard .first .0) turn) (yard .first .1) (turned .first) (turned .first-read) in
-    let in-turn = eqb-true (yard .first .0) turn (test .0) in
-    let to-yard = numberAfter-inverse (form beforeTurn) countDigits ts (yard .first) (tokens-have-bytes (bytes beforeTurn)) (yard .first-read) in
-    let to-marks = follow-inverse (form beforeMarks) (turned .first) ts′ (tokens-have-bytes (bytes beforeMarks)) (turned .then-read) in
+    let yard = bound (followNumber (form beforeTurn) countDigits turn ts) _ ts′ e in
+    let to-yard = followNumber-inverse (form beforeTurn) countDigits turn ts (yard .first) (tokens-have-bytes (bytes beforeTurn)) (yard .first-read) in
+    let to-marks = follow-inverse (form beforeMarks) (yard .first) ts′ (tokens-have-bytes (bytes beforeMarks)) (yard .then-read) in
     simp append-assoc (cc)
 
 yardLine-inverse : (digits items turn : ℕ) (ts : List Token) (r : List ℕ × List Token) → yardLine digits items turn ts ≡ some r → ts ≡ yardTokens turn (r .0) ++ r .1
@@ -132,11 +133,5 @@ pub yardLines-inverse : (digits agents items : ℕ) (ts : List Token) (r : List 
     → ts ≡ yardsTokens 1 (r .0) ++ r .1
 yardLines-inverse digits agents items = inTurn-inverse (yardLine digits items) yardTokens (yardLine-inverse digits items) 1 agents
 
-pub endLine-inverse : (ts : List Token) → endLine ts ≡ true → ts ≡ form lastLine
-unfolding endLine
-endLine-inverse ts e = go (follow (form lastLine) ts) refl e
-  where
-    go : (o : Option (List Token)) → follow (form lastLine) ts ≡ o → endedAfter o ≡ true → ts ≡ form lastLine
-    go none f e = absurd (false≢true e)
-    go (some []) f e = follow-inverse (form lastLine) ts [] (tokens-have-bytes (bytes lastLine)) f ∙ append-nil (form lastLine)
-    go (some (t ∷ ts′)) f e = absurd (false≢true e)
+pub lastLine-inverse : (ts behind : List Token) → follow (form lastLine) ts ≡ some behind → ts ≡ form lastLine ++ behind
+lastLine-inverse ts behind = follow-inverse (form lastLine) ts behind (tokens-have-bytes (bytes lastLine))

@@ -114,3 +114,11 @@ word-lexes begun b (c ∷ cs) y w g =
 
 pub spaced-word-lexed : {begun : Bool} (b : ℕ) (bs : List ℕ) → all isWordByte (b ∷ bs) ≡ true → Lexes begun (space ∷ b ∷ bs) ((b ∷ bs) ∷ []) true
 spaced-word-lexed {begun} b bs w = record { parted = refl; lexes = λ y g. tokensAfter-space begun (b ∷ bs ++ y) ∙ word-lexes begun b bs y w g }
+
+-- a word behind a bracket
+pub bracket-word-lexed : {begun : Bool} (b c : ℕ) (cs : List ℕ) → isBracket b ≡ true → all isWordByte (c ∷ cs) ≡ true → Lexes begun (b ∷ c ∷ cs) ((b ∷ []) ∷ (c ∷ cs) ∷ []) true
+bracket-word-lexed {begun} b c cs e w =
+    record {
+      parted = rw (bracket b e .no-space, e);
+      lexes = λ y g. bracket-token begun b (c ∷ cs ++ y) e ∙ ap (λ ts. (b ∷ []) ∷ ts) (word-lexes true c cs y w g);
+    }

@@ -4,13 +4,15 @@ use mathlib.Core.Path.{_≡_}
 use mathlib.Core.List.{List}
 use mathlib.Core.Option.{Option, none, some}
 use mathlib.Core.Bool.{Bool, true, false}
-use Prim.Native.Nat.{ℕ}
+use Prim.Native.Nat.{ℕ, _≤_}
+use lib.ListN.{length}
 use Rattle.lexing.specs.Tokens.{Token}
 use Rattle.lexing.specs.Places.{tokensAt}
 use Rattle.reading.specs.declared.Valuation.{Valuation}
 use Rattle.reading.specs.declared.lines.Head as head
 use Rattle.reading.specs.declared.lines.Line.{Line}
 use Rattle.reading.specs.declared.lines.Lines.{Lines}
+use Rattle.reading.specs.declared.lines.End.{End}
 
 -- the head
 abbrev pub ReadsHead : List ℕ → head.Head → Option (ℕ × ℕ × List Token) → Type 0
@@ -29,3 +31,7 @@ ReadsLine s r o = ReadIf (r .read) (r .row, r .allowed, tokensAt s (r .next)) o
 -- the yard lines
 abbrev pub ReadsLines : List ℕ → Lines → Option (List Valuation × Bool × List Token) → Type 0
 ReadsLines s r o = ReadIf (r .read) (r .rows, r .allowed, tokensAt s (r .next)) o
+
+-- the line `(end)`: the place after it is inside the text
+abbrev pub ReadsEnd : List ℕ → End → Option (List Token) → Type 0
+ReadsEnd s r o = (r .next .at ≤ length s) × ReadIf (r .read) (tokensAt s (r .next)) o

@@ -1,25 +1,24 @@
 -- `lines::yard_in_turn` meets its contract: its parts are read one after another, or one of them is missed. Assumes nothing.
-use borrow.Author.Tests.{eq-eqb, ne-eqb}
 use Rattle.reading.specs.Grammar.{yardTurn}
 use borrow.Author.Needs.{needs}
 use Rattle.reading.proofs.lines.yard_in_turn.Statement.{statement}
 use Rattle.reading.proofs.lines.yard_in_turn.Tie as tie
 
-slice-aggregate-number-after : tie.Need-slice-aggregate-number-after
-slice-aggregate-number-after c = search needs
+slice-aggregate-follow-number : tie.Need-slice-aggregate-follow-number
+slice-aggregate-follow-number c = search needs
 
-number-after-requires : tie.Need-number-after-requires
-number-after-requires c κs = search needs
+follow-number-requires : tie.Need-follow-number-requires
+follow-number-requires c κs = search needs
 
-enum-known-k : tie.Need-enum-known-k
-enum-known-k c = search needs
+enum-known-next : tie.Need-enum-known-next
+enum-known-next c = search needs
 
 enum-told : tie.Need-enum-told
 enum-told c = search needs
 
 returns : tie.Need-returns
 unfolding yardTurn
-returns c = rw (rw (c .enum-told .given .1) at (c .before .before .number-after .ensures))
+returns c = rw (rw (c .enum-told .given .1) at (c .before .before .follow-number .ensures))
 
 slice-aggregate-follow : tie.Need-slice-aggregate-follow
 slice-aggregate-follow c = search needs
@@ -30,27 +29,18 @@ follow-requires c κs = search needs
 returns-2 : tie.Need-returns-2
 unfolding yardTurn
 returns-2 c =
-    let n = c .before .before .before .before in
-    let asked = n .before .before .before .before .before .args in
-    let h = rw (n .k .given .1) at (n .before .before .number-after .ensures) in
-    rw (h .1, eq-eqb (n .k .given .0 .0) (asked .turn) (c .before .before .if1 .taken)) (c .follow .ensures)
-
-returns-3 : tie.Need-returns-3
-unfolding yardTurn
-returns-3 c =
-    let h = rw (c .before .before .k .given .1) at (c .before .before .before .before .number-after .ensures) in
-    rw (h .1, ne-eqb _ _ (c .if1 .left))
+    let h = rw (c .before .before .before .next .given .1) at (c .before .before .before .before .before .follow-number .ensures) in
+    rw (h .1) (c .follow .ensures)
 
 pub yard-in-turn-spec : {M : Type 1} → statement M
 yard-in-turn-spec =
     tie.close
     (tie.spec
-    slice-aggregate-number-after
-    number-after-requires
-    enum-known-k
+    slice-aggregate-follow-number
+    follow-number-requires
+    enum-known-next
     enum-told
     returns
     slice-aggregate-follow
     follow-requires
-    returns-2
-    returns-3)
+    returns-2)

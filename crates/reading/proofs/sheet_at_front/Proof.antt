@@ -1,0 +1,246 @@
+-- `sheet_at_front` meets its contract: refusals 1 to 8 in turn, or the counts and the rows. Assumes nothing.
+use mathlib.Core.Path.{_≡_, refl, sym, ap, _∙_}
+use mathlib.Core.List.{List}
+use mathlib.Core.Option.{some}
+use mathlib.Core.Bool.{true}
+use Prim.Native.Nat.{ℕ}
+use denote.Ref.{now}
+use native.Mathlib.Omega.{arith}
+use lib.Dec.{leb, ltb}
+use lib.ListN.{length}
+use borrow.Author.Needs.{needs}
+use borrow.Author.Tests.{lt-leb, le-leb, lt-ltb, not-true, not-false}
+use Rattle.sheet.specs.Limits.{longestText, mostAgents, mostItems, greatestMark, markDigits, within}
+use Rattle.sheet.specs.Answers
+use Rattle.sheet.proofs.Limits.{within-bounds}
+use Rattle.lexing.specs.Tokens.{tokens}
+use Rattle.lexing.specs.Places.{tokensAt, start}
+use Rattle.lexing.proofs.texts.Places.{tokens-start}
+use Rattle.reading.specs.Grammar.{head, yardLines, endLine}
+use Rattle.reading.specs.Reading.{allowedRow}
+use Rattle.reading.specs.Outcome.{valuation, outcome, ReadsFront}
+use Rattle.reading.specs.internal.Alone.{mayFollow}
+use Rattle.reading.specs.internal.Kept.{rowOf, blankRows}
+use Rattle.reading.specs.declared.Answer.the-variants.{Accepted}
+use Rattle.reading.specs.declared.Outcome.{Outcome}
+use Rattle.reading.specs.declared.Front.{Front}
+use Rattle.reading.proofs.kept.InTurn.{KeptFrom, kept-from, kept-none}
+use Rattle.reading.proofs.kept.StoredTable.{lines-table}
+use Rattle.reading.proofs.sheet_at_front.Statement.{statement}
+use Rattle.reading.proofs.sheet_at_front.Tie as tie
+
+-- the points of the code that are gone on from: the text has a byte, the head is read, and each count is within its limit
+abbrev counts-read : tie.Else3 → tie.After-agents
+counts-read c = c .before .before .before
+
+abbrev agents-passed : tie.Else4 → tie.Else3
+agents-passed c = c .before .before
+
+abbrev items-passed : tie.Else5 → tie.Else4
+items-passed c = c .before .before .before
+
+abbrev byte-passed : tie.After-agents → tie.Else2
+byte-passed c = c .before .before .before .before
+
+abbrev textOf : tie.Else2 → List ℕ
+textOf c = now (c .before .before .before .args .text)
+
+-- what each test says of the text there
+short : (c : tie.Else2) → leb (length (textOf c)) longestText ≡ true
+short c = le-leb (length (textOf c)) longestText (omega arith)
+
+some-byte : (c : tie.Else2) → ltb 0 (length (textOf c)) ≡ true
+some-byte c = lt-ltb 0 (length (textOf c)) (omega arith)
+
+from-start : (c : tie.After-read-head) → head (tokensAt (textOf (c .before .before)) (c .before .start .result)) ≡ head (tokens (textOf (c .before .before)))
+from-start c = ap head (ap (tokensAt (textOf (c .before .before))) (c .before .start .ensures) ∙ tokens-start (textOf (c .before .before)))
+
+head-read : (c : tie.After-agents) → let text = textOf (byte-passed c) in
+    head (tokens text) ≡ some (c .agents .given .0 .0, c .agents .given .0 .1 .0, tokensAt text (c .agents .given .0 .1 .1 .0))
+head-read c = sym (from-start (c .before .before)) ∙ rw (c .agents .given .1) at (c .before .before .read-head .ensures)
+
+agents-within : (c : tie.Else3) → within mostAgents (counts-read c .agents .given .0 .0) ≡ true
+agents-within c = sym (c .before .is-within .ensures) ∙ not-false _ (c .if3 .left)
+
+items-within : (c : tie.Else4) → within mostItems (counts-read (agents-passed c) .agents .given .0 .1 .0) ≡ true
+items-within c = sym (c .before .is-within2 .ensures) ∙ not-false _ (c .if4 .left)
+
+-- all tests before the yard lines
+before-lines : (c : tie.Else4) → let h = counts-read (agents-passed c) in
+    let text = textOf (byte-passed h) in
+    (leb (length text) longestText ≡ true) × (ltb 0 (length text) ≡ true)
+    × (head (tokens text) ≡ some (h .agents .given .0 .0, h .agents .given .0 .1 .0, tokensAt text (h .agents .given .0 .1 .1 .0)))
+    × (within mostAgents (h .agents .given .0 .0) ≡ true) × (within mostItems (h .agents .given .0 .1 .0) ≡ true)
+before-lines c =
+    let a = agents-passed c in
+    let h = counts-read a in
+    let b = byte-passed h in
+    (short b, some-byte b, head-read h, agents-within a, items-within c)
+
+lines-kept : (c : tie.Else5) → let h = counts-read (agents-passed (items-passed c)) in
+    let text = textOf (byte-passed h) in
+    let lines = c .before .before .yard-lines .result in
+    KeptFrom (λ ms. valuation (rowOf ms)) (allowedRow greatestMark) 0 blankRows true
+    (yardLines markDigits (h .agents .given .0 .0) (h .agents .given .0 .1 .0) (tokensAt text (h .agents .given .0 .1 .1 .0)))
+    (lines .rows, lines .allowed, tokensAt text (lines .next))
+lines-kept c =
+    let lines = c .before .before in
+    kept-from _ _ 0 blankRows true _ _ (rw (not-false (lines .yard-lines .result .read) (c .if5 .left)) at (lines .yard-lines .ensures))
+
+-- the line `(end)`, where it follows the yard lines
+abbrev lines-passed : tie.Else6 → tie.Else5
+lines-passed c = c .before .before .before
+
+end-read : (c : tie.Else6) → let l = lines-passed c in
+    let b = byte-passed (counts-read (agents-passed (items-passed l))) in
+    let end = c .before .end-line .result in
+    endLine (mayFollow (b .before .before .before .args .alone)) (tokensAt (textOf b) (l .before .before .yard-lines .result .next)) ≡ some (tokensAt (textOf b) (end .next))
+end-read c = rw (not-false (c .before .end-line .result .read) (c .if6 .left)) at (c .before .end-line .ensures .1)
+
+-- what a refusal gives
+refusal : {s : List ℕ} {r : Front} {number : ℕ} → (r .outcome ≡ outcome (Answers.refused number)) × (r .next ≡ start) → ReadsFront s r (Answers.refused number)
+refusal told = record { sheet-read = told .0; left-off = told .1 }
+
+refused-requires : tie.Need-refused-requires
+refused-requires c κs = search needs
+
+returns : tie.Need-returns
+returns c = rw (lt-leb (length (now (c .before .before .before .args .text))) longestText (omega arith)) (refusal (c .refused .ensures))
+
+refused-requires-2 : tie.Need-refused-requires-2
+refused-requires-2 c κs = search needs
+
+returns-2 : tie.Need-returns-2
+returns-2 c = rw (c .before .if2 .taken) (refusal (c .refused2 .ensures))
+
+start-requires : tie.Need-start-requires
+start-requires c κs = search needs
+
+read-head-requires : tie.Need-read-head-requires
+read-head-requires c κs = search needs
+
+enum-known-agents : tie.Need-enum-known-agents
+enum-known-agents c = search needs
+
+enum-told : tie.Need-enum-told
+enum-told c = search needs
+
+refused-requires-3 : tie.Need-refused-requires-3
+refused-requires-3 c κs = search needs
+
+returns-3 : tie.Need-returns-3
+returns-3 c =
+    let at-head = c .before .before .before in
+    let b = at-head .before .before in
+    let missed = sym (from-start at-head) ∙ rw (c .before .enum-told .given .1) at (at-head .read-head .ensures) in
+    rw (short b, some-byte b, missed) (refusal (c .refused3 .ensures))
+
+is-within-requires : tie.Need-is-within-requires
+is-within-requires c κs = search needs
+
+refused-requires-4 : tie.Need-refused-requires-4
+refused-requires-4 c κs = search needs
+
+returns-4 : tie.Need-returns-4
+returns-4 c =
+    let h = c .before .before .before .before in
+    let b = byte-passed h in
+    let outside = sym (c .before .before .is-within .ensures) ∙ not-true _ (c .before .if3 .taken) in
+    rw (short b, some-byte b, head-read h, outside) (refusal (c .refused4 .ensures))
+
+is-within-requires-2 : tie.Need-is-within-requires-2
+is-within-requires-2 c κs = search needs
+
+refused-requires-5 : tie.Need-refused-requires-5
+refused-requires-5 c κs = search needs
+
+returns-5 : tie.Need-returns-5
+returns-5 c =
+    let a = c .before .before .before in
+    let h = counts-read a in
+    let b = byte-passed h in
+    let outside = sym (c .before .before .is-within2 .ensures) ∙ not-true _ (c .before .if4 .taken) in
+    rw (short b, some-byte b, head-read h, agents-within a, outside) (refusal (c .refused5 .ensures))
+
+yard-lines-requires : tie.Need-yard-lines-requires
+yard-lines-requires c κs = (within-bounds _ _ (agents-within (c .before .before)) .1, within-bounds _ _ (items-within c) .1)
+
+refused-requires-6 : tie.Need-refused-requires-6
+refused-requires-6 c κs = search needs
+
+returns-6 : tie.Need-returns-6
+returns-6 c =
+    let lines = c .before .before .before in
+    let p = before-lines (lines .before) in
+    let missed = kept-none _ _ 0 blankRows true _ (rw (not-true (lines .yard-lines .result .read) (c .before .if5 .taken)) at (lines .yard-lines .ensures)) in
+    rw (p .0, p .1, p .2, p .3, p .4, missed) (refusal (c .refused6 .ensures))
+
+end-line-requires : tie.Need-end-line-requires
+end-line-requires c κs = search needs
+
+refused-requires-7 : tie.Need-refused-requires-7
+refused-requires-7 c κs = search needs
+
+returns-7 : tie.Need-returns-7
+returns-7 c =
+    let at-end = c .before .before in
+    let l = at-end .before .before in
+    let p = before-lines (items-passed l) in
+    let missed = rw (not-true (at-end .end-line .result .read) (c .before .if6 .taken)) at (at-end .end-line .ensures .1) in
+    rw (p .0, p .1, p .2, p .3, p .4, lines-kept l .read, missed) (refusal (c .refused7 .ensures))
+
+refused-requires-8 : tie.Need-refused-requires-8
+refused-requires-8 c κs = search needs
+
+returns-8 : tie.Need-returns-8
+returns-8 c =
+    let ends = c .before .before in
+    let l = lines-passed ends in
+    let p = before-lines (items-passed l) in
+    let large = sym (lines-kept l .tested) ∙ not-true (l .before .before .yard-lines .result .allowed) (c .before .if7 .taken) in
+    rw (p .0, p .1, p .2, p .3, p .4, lines-kept l .read, end-read ends, large) (refusal (c .refused8 .ensures))
+
+returns-9 : tie.Need-returns-9
+returns-9 c =
+    let ends = c .before .before .before in
+    let l = lines-passed ends in
+    let h = counts-read (agents-passed (items-passed l)) in
+    let p = before-lines (items-passed l) in
+    let kept = lines-kept l in
+    let small = sym (kept .tested) ∙ not-false (l .before .before .yard-lines .result .allowed) (c .before .before .if7 .left) in
+    let rows-read = kept .filled ∙ lines-table _ _ _ _ _ (within-bounds _ _ (p .3) .1) (within-bounds _ _ (p .4) .1) (kept .read) small in
+    rw (p .0, p .1, p .2, p .3, p .4, kept .read, end-read ends, small)
+    (record {
+      sheet-read = ap {B = Outcome} (λ rows. record { answer = Accepted (record { agents = h .agents .given .0 .0; items = h .agents .given .0 .1 .0 }); rows = rows }) rows-read;
+      left-off = (ends .before .end-line .ensures .0, refl);
+    })
+
+pub sheet-at-front-spec : {M : Type 1} → statement M
+sheet-at-front-spec =
+    tie.close
+    (tie.spec
+    refused-requires
+    returns
+    refused-requires-2
+    returns-2
+    start-requires
+    read-head-requires
+    enum-known-agents
+    enum-told
+    refused-requires-3
+    returns-3
+    is-within-requires
+    refused-requires-4
+    returns-4
+    is-within-requires-2
+    refused-requires-5
+    returns-5
+    yard-lines-requires
+    refused-requires-6
+    returns-6
+    end-line-requires
+    refused-requires-7
+    returns-7
+    refused-requires-8
+    returns-8
+    returns-9)
