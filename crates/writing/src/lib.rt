@@ -2,8 +2,9 @@
 // is left out.
 ghost use mathlib.Core.Path.{_≡_};
 ghost use mathlib.Core.List.{[], _∷_, _++_};
+ghost use lib.IntN.{natAbs};
 ghost use lib.ListN.{length};
-ghost use Rattle.text.specs.Decimal.{decimal, spacedNumber, spacedNumbers};
+ghost use Rattle.text.specs.Decimal.{decimal, signed, spacedNumber, spacedNumbers};
 ghost use Rattle.sheet.specs.Answers.{after};
 ghost use Rattle.writing.specs.Answered.{answered};
 ghost use Rattle.writing.specs.Fields.{group};
@@ -49,6 +50,27 @@ pub fn put_number(buffer: &mut [u8], at: usize, n: u64) -> usize
     }
     let next = put_number(buffer, at, n / 10);
     put(buffer, next, b'0' + (n % 10) as u8)
+}
+
+// A whole number without its sign. The opposite of one below zero may not fit the signed type; that of the next one does.
+fn without_sign(n: i64) -> u64
+    ensures { λ r. ⌜ r ≡ natAbs n ⌝ }
+{
+    if n < 0 {
+        return (0 - (n + 1)) as u64 + 1;
+    }
+    n as u64
+}
+
+// A whole number in decimal digits, with a minus sign where it is below zero.
+pub fn put_signed(buffer: &mut [u8], at: usize, n: i64) -> usize
+    ensures { λ r. ⌜ Written (output (now (buffer .entry)) at) (signed n) (output (now (buffer .exit)) r) ⌝ }
+{
+    if n < 0 {
+        let next = put(buffer, at, b'-');
+        return put_number(buffer, next, without_sign(n));
+    }
+    put_number(buffer, at, without_sign(n))
 }
 
 // How many digits a number has.
