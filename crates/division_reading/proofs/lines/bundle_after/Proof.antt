@@ -1,0 +1,95 @@
+-- `lines::bundle_after` meets its contract: its parts are read one after another, or one of them is missed. Assumes nothing.
+use mathlib.Core.Path.{_≡_, _∙_}
+use mathlib.Core.Option.{some}
+use denote.Ref.{now}
+use borrow.Author.Needs.{needs}
+use Rattle.lexing.specs.Tokens.{tokens}
+use Rattle.lexing.specs.Forms.{follow}
+use Rattle.lexing.specs.Places.{tokensAt}
+use Rattle.division_reading.specs.Grammar.{risingItems, bundleAfter}
+use Rattle.division_reading.specs.internal.Kept.{mapRead, keptBundle}
+use Rattle.division_reading.proofs.kept.YardLine.{bundle-kept}
+use Rattle.division_reading.proofs.lines.bundle_after.Statement.{statement}
+use Rattle.division_reading.proofs.lines.bundle_after.Tie as tie
+
+-- what the form says, where it has been followed, and what the items say, where they have been read
+form-followed : (c : tie.After-c1) → let a = c .before .before .before .before .before .args in
+    follow (tokens (now (a .form))) (tokensAt (now (a .s)) (a .c)) ≡ some (tokensAt (now (a .s)) (c .c1 .given .0 .0))
+form-followed c = (rw (c .c1 .given .1) at (c .before .before .follow .ensures)) .1
+
+abbrev form-point : tie.After-set → tie.After-c1
+form-point c = c .before .before .before .before
+
+items-read : (c : tie.After-set) → let a = form-point c .before .before .before .before .before .args in
+    keptBundle (risingItems (a .items) 0 (tokensAt (now (a .s)) (form-point c .c1 .given .0 .0))) ≡ some (c .set .given .0 .0, tokensAt (now (a .s)) (c .set .given .0 .1 .0))
+items-read c = rw (c .set .given .1) at (c .before .before .rising-items .ensures)
+
+follow-requires : tie.Need-follow-requires
+follow-requires c κs = search needs
+
+enum-known-c1 : tie.Need-enum-known-c1
+enum-known-c1 c = search needs
+
+enum-told : tie.Need-enum-told
+enum-told c = search needs
+
+returns : tie.Need-returns
+unfolding bundleAfter mapRead
+returns c = rw (rw (c .enum-told .given .1) at (c .before .before .follow .ensures))
+
+rising-items-requires : tie.Need-rising-items-requires
+rising-items-requires c κs = search needs
+
+enum-known-set : tie.Need-enum-known-set
+enum-known-set c = search needs
+
+enum-told-2 : tie.Need-enum-told-2
+enum-told-2 c = search needs
+
+returns-2 : tie.Need-returns-2
+returns-2 c =
+    let missed = rw (c .enum-told2 .given .1) at (c .before .before .rising-items .ensures) in
+    bundle-kept _ _ _ _ (form-followed (c .before .before .before .before)) ∙ rw missed
+
+slice-aggregate-follow : tie.Need-slice-aggregate-follow
+slice-aggregate-follow c = search needs
+
+follow-requires-2 : tie.Need-follow-requires-2
+follow-requires-2 c κs = search needs
+
+enum-known-c3 : tie.Need-enum-known-c3
+enum-known-c3 c = search needs
+
+enum-told-3 : tie.Need-enum-told-3
+enum-told-3 c = search needs
+
+returns-3 : tie.Need-returns-3
+returns-3 c =
+    let i = c .before .before .before .before .before in
+    let missed = rw (c .enum-told3 .given .1) at (c .before .before .follow2 .ensures) in
+    bundle-kept _ _ _ _ (form-followed (form-point i)) ∙ rw (items-read i, missed)
+
+returns-4 : tie.Need-returns-4
+returns-4 c =
+    let i = c .before .before .before .before .before .before in
+    let l = rw (c .before .c3 .given .1) at (c .before .before .before .follow2 .ensures) in
+    bundle-kept _ _ _ _ (form-followed (form-point i)) ∙ rw (items-read i, l .1)
+
+pub bundle-after-spec : {M : Type 1} → statement M
+bundle-after-spec =
+    tie.close
+    (tie.spec
+    follow-requires
+    enum-known-c1
+    enum-told
+    returns
+    rising-items-requires
+    enum-known-set
+    enum-told-2
+    returns-2
+    slice-aggregate-follow
+    follow-requires-2
+    enum-known-c3
+    enum-told-3
+    returns-3
+    returns-4)

@@ -1,0 +1,47 @@
+-- `lines::bundle_in_turn` meets its contract: its parts are read one after another, or one of them is missed. Assumes nothing.
+use borrow.Author.Needs.{needs}
+use Rattle.division_reading.specs.Grammar.{bundleInTurn}
+use Rattle.division_reading.specs.internal.Kept.{mapRead}
+use Rattle.division_reading.proofs.lines.bundle_in_turn.Statement.{statement}
+use Rattle.division_reading.proofs.lines.bundle_in_turn.Tie as tie
+
+slice-aggregate-follow-number : tie.Need-slice-aggregate-follow-number
+slice-aggregate-follow-number c = search needs
+
+follow-number-requires : tie.Need-follow-number-requires
+follow-number-requires c κs = search needs
+
+enum-known-next : tie.Need-enum-known-next
+enum-known-next c = search needs
+
+enum-told : tie.Need-enum-told
+enum-told c = search needs
+
+returns : tie.Need-returns
+unfolding bundleInTurn mapRead
+returns c = rw (rw (c .enum-told .given .1) at (c .before .before .follow-number .ensures))
+
+slice-aggregate-bundle-after : tie.Need-slice-aggregate-bundle-after
+slice-aggregate-bundle-after c = search needs
+
+bundle-after-requires : tie.Need-bundle-after-requires
+bundle-after-requires c κs = search needs
+
+returns-2 : tie.Need-returns-2
+unfolding bundleInTurn
+returns-2 c =
+    let h = rw (c .before .before .before .next .given .1) at (c .before .before .before .before .before .follow-number .ensures) in
+    rw (h .1) (c .bundle-after .ensures)
+
+pub bundle-in-turn-spec : {M : Type 1} → statement M
+bundle-in-turn-spec =
+    tie.close
+    (tie.spec
+    slice-aggregate-follow-number
+    follow-number-requires
+    enum-known-next
+    enum-told
+    returns
+    slice-aggregate-bundle-after
+    bundle-after-requires
+    returns-2)

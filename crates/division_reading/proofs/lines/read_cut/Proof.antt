@@ -1,0 +1,92 @@
+-- `lines::read_cut` meets its contract. The loop's invariant: the bundles still due, kept behind those in their places, are the cut. Assumes nothing.
+use mathlib.Core.Path.{_≡_, refl, _∙_}
+use Prim.Native.Nat.{_≤_, _+_, _-_}
+use native.Mathlib.Nat.{sub-zero}
+use native.Mathlib.Omega.{arith}
+use borrow.Author.Needs.{needs}
+use lib.ListN.{length, length-set}
+use Rattle.sheet.specs.Limits.{mostAgents}
+use Rattle.sheet.specs.Sets.{setOf}
+use Rattle.lexing.specs.Forms.{form, inTurn}
+use Rattle.lexing.specs.Places.{tokensAt}
+use Rattle.division_reading.specs.DivisionForms.{beforeCutPile}
+use Rattle.division_reading.specs.Grammar.{bundleAfter, cutBundles}
+use Rattle.division_reading.specs.internal.Kept.{keptAfter, keptCut}
+use Rattle.division_reading.proofs.kept.InTurn.{kept-missed, kept-read, kept-all}
+use Rattle.division_reading.proofs.lines.read_cut.Statement.{statement}
+use Rattle.division_reading.proofs.lines.read_cut.Tie as tie
+
+abbrev Inv-loop : tie.InvT-loop
+Inv-loop s agents items sets₀ here₀ k₀ text sets here k =
+    (k ≤ agents) × (length sets ≡ mostAgents)
+    × (keptCut (cutBundles agents items (tokensAt s here₀))
+    ≡ keptAfter setOf k sets (inTurn (λ number. bundleAfter (form beforeCutPile) items) (k + 1) (agents - k) (tokensAt s here)))
+
+abbrev μ-loop : tie.MeasureT-loop
+μ-loop s agents items sets₀ here₀ k₀ text sets here k = agents - k
+
+loop-holds : tie.Need-loop-holds Inv-loop μ-loop
+loop-holds c = (omega arith, refl, rw sub-zero)
+
+slice-aggregate-bundle-after : tie.Need-slice-aggregate-bundle-after Inv-loop μ-loop
+slice-aggregate-bundle-after c = search needs
+
+bundle-after-requires : tie.Need-bundle-after-requires Inv-loop μ-loop
+bundle-after-requires c κs = omega arith
+
+enum-known-set : tie.Need-enum-known-set Inv-loop μ-loop
+enum-known-set c = search needs
+
+enum-told : tie.Need-enum-told Inv-loop μ-loop
+enum-told c = search needs
+
+returns : tie.Need-returns Inv-loop μ-loop
+returns c =
+    let read = c .before .before in
+    let turn = read .before .before in
+    turn .before .loop .inv .2
+    ∙ kept-missed _ _ _ _ _ _ _ _ (turn .loop-test .taken) (rw (c .enum-told .given .1) at (read .bundle-after .ensures))
+
+mul-sets : tie.Need-mul-sets Inv-loop μ-loop
+mul-sets c = omega arith
+
+array-write-sets : tie.Need-array-write-sets Inv-loop μ-loop
+array-write-sets c = omega arith
+
+add-k : tie.Need-add-k Inv-loop μ-loop
+add-k c = omega arith
+
+loop-less : tie.Need-loop-less Inv-loop μ-loop
+loop-less c = omega arith
+
+loop-again : tie.Need-loop-again Inv-loop μ-loop
+loop-again c =
+    let read = c .before .before .before in
+    let turn = read .before .before in (
+      omega arith,
+      simp length-set (turn .before .loop .inv .1),
+      turn .before .loop .inv .2
+          ∙ kept-read _ _ _ _ _ _ _ _ _ _ (turn .loop-test .taken) (rw (c .before .set .given .1) at (read .bundle-after .ensures)),
+    )
+
+returns-2 : tie.Need-returns-2 Inv-loop μ-loop
+returns-2 c = c .before .loop .inv .2 ∙ kept-all _ _ _ _ _ _ _ _ (c .loop-test .left)
+
+pub read-cut-spec : {M : Type 1} → statement M
+read-cut-spec =
+    tie.close
+    (tie.spec
+    Inv-loop
+    μ-loop
+    loop-holds
+    slice-aggregate-bundle-after
+    bundle-after-requires
+    enum-known-set
+    enum-told
+    returns
+    mul-sets
+    array-write-sets
+    add-k
+    loop-less
+    loop-again
+    returns-2)

@@ -1,0 +1,107 @@
+-- `lines::rising_items` meets its contract. The loop's invariant: the items still to be read, kept behind those of the set, are the bundle. Assumes nothing.
+use mathlib.Core.Path.{_≡_, refl, ap, _∙_}
+use mathlib.Core.Option.{some}
+use denote.Ref.{now}
+use Prim.Native.Nat.{_-_, _^_, _≤_, _<_}
+use native.Mathlib.Omega.{arith}
+use borrow.Author.Needs.{needs}
+use Rattle.sheet.specs.Limits.{countDigits}
+use Rattle.lexing.specs.Numbers.{number}
+use Rattle.lexing.specs.Places.{tokensAt}
+use Rattle.division_reading.specs.Grammar.{risingItems}
+use Rattle.division_reading.specs.internal.Kept.{mapRead, keptBundle, keptItemsAfter}
+use Rattle.division_reading.proofs.kept.RisingItems.{no-item, item-not-above, item-not-on-sheet, item-rises, none-kept, item-kept, all-kept, higher-item, item-power}
+use Rattle.division_reading.proofs.lines.rising_items.Statement.{statement}
+use Rattle.division_reading.proofs.lines.rising_items.Tie as tie
+
+abbrev Inv-loop : tie.InvT-loop
+Inv-loop s items set₀ above₀ here₀ set above here =
+    (above ≤ items) × (set < 2 ^ above)
+    × (keptBundle (risingItems items 0 (tokensAt s here₀)) ≡ keptItemsAfter set (risingItems items above (tokensAt s here)))
+
+abbrev μ-loop : tie.MeasureT-loop
+μ-loop s items set₀ above₀ here₀ set above here = items - above
+
+-- the point of a turn, from where its number has been read, and what that number says
+abbrev turn : tie.After-number Inv-loop μ-loop → tie.At-loop Inv-loop μ-loop
+turn c = c .before .before .before .before
+
+item-given : (c : tie.After-number Inv-loop μ-loop) → let s = now (turn c .before .before .args .s) in
+    number countDigits (tokensAt s (turn c .loop .here)) ≡ some (c .number .given .0 .0, tokensAt s (c .number .given .0 .1 .0))
+item-given c = (rw (c .number .given .1) at (c .before .before .read-number .ensures)) .1
+
+loop-holds : tie.Need-loop-holds Inv-loop μ-loop
+loop-holds c = (omega arith, omega arith, none-kept _)
+
+read-number-requires : tie.Need-read-number-requires Inv-loop μ-loop
+read-number-requires c κs = tt
+
+enum-known-number : tie.Need-enum-known-number Inv-loop μ-loop
+enum-known-number c = search needs
+
+enum-told : tie.Need-enum-told Inv-loop μ-loop
+enum-told c = search needs
+
+returns : tie.Need-returns Inv-loop μ-loop
+returns c =
+    let l = c .before .before .before .before in
+    l .loop .inv .2
+    ∙ ap (keptItemsAfter (l .loop .set)) (no-item _ _ _ (rw (c .enum-told .given .1) at (c .before .before .read-number .ensures)))
+    ∙ all-kept _ _
+
+returns-2 : tie.Need-returns-2 Inv-loop μ-loop
+unfolding mapRead
+returns-2 c =
+    let n = c .before .before in
+    turn n .loop .inv .2 ∙ ap (keptItemsAfter (turn n .loop .set)) (item-not-above _ _ _ _ _ (item-given n) (c .if1 .taken)) ∙ refl
+
+returns-3 : tie.Need-returns-3 Inv-loop μ-loop
+unfolding mapRead
+returns-3 c =
+    let n = c .before .before .before in
+    turn n .loop .inv .2 ∙ ap (keptItemsAfter (turn n .loop .set)) (item-not-on-sheet _ _ _ _ _ (item-given n) (c .before .if1 .left) (c .if2 .taken)) ∙ refl
+
+set-of-item-requires : tie.Need-set-of-item-requires Inv-loop μ-loop
+set-of-item-requires c κs = omega arith
+
+add-set : tie.Need-add-set Inv-loop μ-loop
+add-set c =
+    let l = turn (c .before .before .before .before) .loop in
+    let k = c .before .before .before .before .number .given .0 .0 in
+    omega (arith, higher-item (l .set) (l .above) k (l .inv .1) (omega arith), item-power k (omega arith), c .set-of-item .ensures)
+
+loop-less : tie.Need-loop-less Inv-loop μ-loop
+loop-less c = omega arith
+
+loop-again : tie.Need-loop-again Inv-loop μ-loop
+loop-again c =
+    let n = c .before .before .before .before in
+    let l = turn n .loop in
+    let k = n .number .given .0 .0 in (
+      omega arith,
+      rw (c .set-of-item .ensures) (higher-item (l .set) (l .above) k (l .inv .1) (omega arith)),
+      rw (c .set-of-item .ensures)
+          (l .inv .2 ∙ ap (keptItemsAfter (l .set)) (item-rises _ _ _ _ _ (item-given n) (omega arith) (omega arith)) ∙ item-kept (l .set) k _),
+    )
+
+returns-4 : tie.Need-returns-4 Inv-loop μ-loop
+returns-4 c = absurd (omega arith)
+
+pub rising-items-spec : {M : Type 1} → statement M
+rising-items-spec =
+    tie.close
+    (tie.spec
+    Inv-loop
+    μ-loop
+    loop-holds
+    read-number-requires
+    enum-known-number
+    enum-told
+    returns
+    returns-2
+    returns-3
+    set-of-item-requires
+    add-set
+    loop-less
+    loop-again
+    returns-4)
