@@ -1,0 +1,10 @@
+-- The theorem that a division is accepted exactly if all it states is true, and samples;
+-- then the laws that the proofs of the functions cite.
+pub mod Theorems
+pub mod Samples
+pub mod Shape
+pub mod Allocating
+pub mod StatedLines
+pub mod ByTable
+pub mod Verdicts
+pub mod Accepted

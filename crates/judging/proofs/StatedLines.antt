@@ -1,0 +1,82 @@
+-- What the code's lines state, line by line and place by place. Assumes nothing.
+use mathlib.Core.Path.{_≡_, sym, ap, ap₂, _∙_}
+use mathlib.Core.Bool.{_&&_}
+use mathlib.Core.List.{List, [], map, map-map, List·Memᴰ as Mem}
+use Prim.Native.Nat.{ℕ, _-_, _≤_}
+use native.Mathlib.Omega.{arith}
+use lib.Dec.{eqb}
+use lib.ListN.{length, take, length-map, length-take, List·getD-map}
+use lib.Seq.{getD-take}
+use Rattle.lists.specs.Lists.{range, nth, all}
+use Rattle.lists.proofs.ranges.Ranges.{range-bounds}
+use Rattle.lists.proofs.places.Passing.{take-map}
+use Rattle.lists.proofs.places.Defaults.{getD-default}
+use Rattle.lists.proofs.members.Tests.{all-cong, all-nth}
+use Rattle.sheet.specs.Limits.{mostAgents}
+use Rattle.sheet.specs.Sets.{itemsOf}
+use Rattle.shares.specs.Shares.{shareOf}
+use Rattle.grading.specs.Scale.{gradeByTable}
+use Rattle.division_reading.specs.Stated.{Stated}
+use Rattle.division_reading.specs.declared.StatedLine as line
+use Rattle.judging.specs.Truth.{bundlesOf, lineOf, noneStated, eachInOne, eachInOneOfAll, lineTrue, figuresTrue}
+use Rattle.judging.specs.Outcome.{statedLine}
+use Rattle.judging.specs.internal.Lines.{noLine, cutsInOne, linesTrue}
+
+-- what the first n lines state, with the grade
+abbrev pub statedOf : ℕ → ℕ → List line.StatedLine → Stated
+statedOf n grade lines = record { grade = grade; lines = map (statedLine n) (take n lines) }
+
+-- the bundles of the lines as sets
+abbrev pub setsOf : List line.StatedLine → List ℕ
+setsOf lines = map (λ l. l .bundle) lines
+
+module _ (n grade : ℕ) (lines : List line.StatedLine) where
+  bundles-stated : bundlesOf (statedOf n grade lines) ≡ map itemsOf (take n (setsOf lines))
+  bundles-stated =
+      map-map (λ l. l .bundle) (statedLine n) (take n lines)
+      ∙ sym (map-map itemsOf (λ l. l .bundle) (take n lines))
+      ∙ ap (map itemsOf) (sym (take-map (λ l. l .bundle) n lines))
+
+  -- the bundle of an agent in use
+  pub nth-bundle : {i : ℕ} → Mem i (range 1 n) → nth [] (map itemsOf (setsOf lines)) i ≡ nth [] (bundlesOf (statedOf n grade lines)) i
+  nth-bundle {i} mi =
+      let b = range-bounds 1 n mi in
+      sym (ap (λ l. nth [] l i) (bundles-stated ∙ sym (take-map itemsOf n (setsOf lines))) ∙ getD-take n (map itemsOf (setsOf lines)) (i - 1) [] (omega arith))
+
+  module _ (few : n ≤ mostAgents) (places : length lines ≡ mostAgents) where
+    length-stated : length (statedOf n grade lines .lines) ≡ n
+    length-stated = length-map (take n lines) (statedLine n) ∙ length-take n lines ∙ omega arith
+
+    -- the line of an agent in use
+    pub lineOf-stated : {i : ℕ} → Mem i (range 1 n) → lineOf (statedOf n grade lines) i ≡ statedLine n (nth noLine lines i)
+    lineOf-stated {i} mi =
+        let b = range-bounds 1 n mi in
+        getD-default noneStated (statedLine n noLine) (statedOf n grade lines .lines) (i - 1) (omega (arith, length-stated))
+        ∙ List·getD-map (statedLine n) (take n lines) (i - 1) noLine
+        ∙ ap (statedLine n) (getD-take n lines (i - 1) noLine (omega arith))
+
+    -- the cuts
+    cuts-stated : (m : ℕ) → all (λ l. eachInOne m (l .cut)) (statedOf n grade lines .lines) ≡ cutsInOne n m lines
+    cuts-stated m =
+        let d = statedOf n grade lines in
+        all-nth (λ l. eachInOne m (l .cut)) noneStated (d .lines) n length-stated
+        ∙ all-cong _ _ (range 1 n) (λ i mi. ap (λ l. eachInOne m (l .cut)) (lineOf-stated mi))
+
+    -- the test of refusal 12
+    pub in-one-stated : (m : ℕ) → eachInOneOfAll m (statedOf n grade lines) ≡ eachInOne m (map itemsOf (take n (setsOf lines))) && cutsInOne n m lines
+    unfolding eachInOneOfAll
+    in-one-stated m = ap₂ _&&_ (ap (eachInOne m) bundles-stated) (cuts-stated m)
+
+    -- the worths, the shares and the cuts, by the shares of the table
+    lines-stated : (m : ℕ) (table : List (List ℕ)) (shares : List ℕ) → ((i : ℕ) → Mem i (range 1 n) → nth 0 shares i ≡ shareOf n m table i)
+        → all (λ i. lineTrue n m table i (lineOf (statedOf n grade lines) i)) (range 1 n) ≡ linesTrue n m table shares lines
+    unfolding lineTrue
+    lines-stated m table shares each =
+        all-cong _ _ (range 1 n) (λ i mi. rw (lineOf-stated mi, each i mi))
+
+    -- the test of refusal 13
+    pub figures-stated : (m : ℕ) (table : List (List ℕ)) (shares : List ℕ) → ((i : ℕ) → Mem i (range 1 n) → nth 0 shares i ≡ shareOf n m table i)
+        → (g : ℕ) → gradeByTable n m table (bundlesOf (statedOf n grade lines)) ≡ g
+        → figuresTrue n m table (statedOf n grade lines) ≡ linesTrue n m table shares lines && eqb grade g
+    unfolding figuresTrue
+    figures-stated m table shares each g is = ap₂ _&&_ (lines-stated m table shares each) (ap (eqb grade) is)

@@ -1,0 +1,36 @@
+-- The answer on what a division states, by its tests in turn. Assumes nothing.
+use mathlib.Core.Path.{_≡_}
+use mathlib.Core.Bool.{true, false}
+use mathlib.Core.List.{List}
+use mathlib.Core.Option.{Option}
+use Prim.Native.Nat.{ℕ}
+use Rattle.sheet.specs.Limits.{CountsWithin}
+use Rattle.sheet.specs.Answers.{refused, accepted}
+use Rattle.shares.specs.Shares.{sharing}
+use Rattle.shares.proofs.Refusals.{sharing-within}
+use Rattle.grading.specs.Scale.{marginsByTable}
+use Rattle.division_reading.specs.Stated.{Stated}
+use Rattle.judging.specs.Truth.{bundlesOf, eachInOneOfAll, figuresTrue}
+use Rattle.judging.specs.Judging.{judging}
+use Rattle.judging.specs.internal.Shared.{judgingRead, judgingShared}
+
+module _ (n m : ℕ) (table : List (List ℕ)) (stated : Option Stated) where
+  -- refused as the shares are
+  pub judging-refused : (number : ℕ) → sharing n m table ≡ refused number → judging n m table stated ≡ refused number
+  unfolding judging
+  judging-refused number out = rw out
+
+  -- within the limits there are shares
+  pub judging-within : CountsWithin n m → judging n m table stated ≡ judgingShared n m table stated
+  unfolding judging
+  judging-within counts = rw (sharing-within n m table counts)
+
+module _ (n m : ℕ) (table : List (List ℕ)) (d : Stated) where
+  pub judged-not-once : eachInOneOfAll m d ≡ false → judgingRead n m table d ≡ refused 12
+  judged-not-once out = rw out
+
+  pub judged-false : eachInOneOfAll m d ≡ true → figuresTrue n m table d ≡ false → judgingRead n m table d ≡ refused 13
+  judged-false once out = rw (once, out)
+
+  pub judged-true : eachInOneOfAll m d ≡ true → figuresTrue n m table d ≡ true → judgingRead n m table d ≡ accepted (marginsByTable n m table (bundlesOf d))
+  judged-true once correct = rw (once, correct)

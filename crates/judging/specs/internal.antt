@@ -1,0 +1,3 @@
+-- What only the contracts of private functions cite.
+pub mod Lines
+pub mod Shared

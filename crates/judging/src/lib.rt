@@ -1,0 +1,110 @@
+// Judging a division that others bring: the refusal's number, or that all it states is true, with the margin of each agent.
+ghost use mathlib.Core.Path.{_≡_};
+ghost use mathlib.Core.List.{map};
+ghost use lib.ListN.{length};
+ghost use Rattle.sheet.specs.Limits.{mostAgents};
+ghost use Rattle.sheet.specs.Answers.{refused};
+ghost use Rattle.judging.specs.Judging.{judging};
+ghost use Rattle.judging.specs.Outcome.{outcome, statedIn};
+ghost use Rattle.judging.specs.internal.Shared.{SharesIn, judgingShared};
+use crate::figures::figures_true;
+use crate::once::all_in_one;
+use division_reading::Stated;
+use division_reading::StatedLine;
+use grading::grade_of;
+use grading::worths_of;
+use margins::Margins;
+use margins::margins_of;
+use shares::share_each;
+use sheet::Sets;
+use sheet::Sheet;
+use sheet::Table;
+use sheet::amounts::Amounts;
+
+mod figures;
+mod once;
+
+// The number of the reason why the division is refused, or that it is accepted.
+pub enum Answer {
+    Refused(u8),
+    Accepted,
+}
+
+// The answer, and the margin of each agent; 0 after the last agent, and where the division is refused.
+pub struct Outcome {
+    pub answer: Answer,
+    pub margins: Margins,
+}
+
+// A refusal, with no margin.
+fn refuse(number: u8) -> Outcome
+    ensures { λ r. ⌜ r ≡ outcome (refused number) ⌝ }
+{
+    Outcome {
+        answer: Answer::Refused(number),
+        margins: [0; Sheet::AGENTS],
+    }
+}
+
+// The bundle of each line.
+fn bundles_of(lines: [StatedLine; Sheet::AGENTS]) -> Sets
+    ensures { λ r. ⌜ (r ≡ map (λ l. l .bundle) lines) × (length lines ≡ mostAgents) ⌝ }
+{
+    let mut bundles = [0u16; Sheet::AGENTS];
+    let mut i: usize = 0;
+    while i < Sheet::AGENTS {
+        let line = lines[i];
+        bundles[i] = line.bundle;
+        i += 1;
+    }
+    bundles
+}
+
+// The answer on a division of a table that is not refused, by the shares of its agents.
+fn judge_shared(
+    table: Table,
+    agents: usize,
+    items: usize,
+    shares: Amounts,
+    stated: Stated,
+) -> Outcome
+    requires { ⌜ SharesIn agents items table shares ⌝ }
+    ensures { λ r. ⌜ r ≡ outcome (judgingShared agents items table (statedIn agents stated)) ⌝ }
+{
+    let read = stated.read;
+    let lines = stated.lines;
+    let bundles = bundles_of(lines);
+    let worths = worths_of(table, agents, items, bundles);
+    let margins = margins_of(agents, worths, shares);
+    let grade = grade_of(table, agents, items, shares, margins, bundles);
+    let once = all_in_one(bundles, lines, agents, items);
+    let correct = figures_true(table, agents, items, shares, lines, grade, stated.grade);
+    if !read {
+        return refuse(11);
+    }
+    if !once {
+        return refuse(12);
+    }
+    if !correct {
+        return refuse(13);
+    }
+    Outcome {
+        answer: Answer::Accepted,
+        margins,
+    }
+}
+
+// The answer on a division of a table of marks with these counts. Refused as the table's shares are; else with 11 where the division is
+// not read, with 12 where an item is in no bundle or in two, of the division or of a cut, and with 13 where a worth, a share, a cut or
+// the grade is false.
+pub fn judge(table: Table, agents: usize, items: usize, stated: Stated) -> Outcome
+    ensures { λ r. ⌜ r ≡ outcome (judging agents items table (statedIn agents stated)) ⌝ }
+{
+    let own = share_each(table, agents, items);
+    let answer = own.answer;
+    let shares = own.shares;
+    match answer {
+        shares::Answer::Refused(number) => refuse(number),
+        shares::Answer::Shared => judge_shared(table, agents, items, shares, stated),
+    }
+}
