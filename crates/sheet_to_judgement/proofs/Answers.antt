@@ -1,0 +1,76 @@
+-- How each answer of judging is printed. Assumes nothing.
+use mathlib.Core.Path.{_≡_, sym, ap, _∙_}
+use mathlib.Core.List.{List}
+use mathlib.Core.Option.{Option}
+use Prim.Native.Nat.{ℕ, _≤_}
+use native.Mathlib.Omega.{arith}
+use lib.IntN.{ℤ}
+use lib.ListN.{length}
+use Rattle.lists.specs.Lists.{nth}
+use Rattle.sheet.specs.Limits.{mostAgents}
+use Rattle.sheet.specs.Tables.{profile}
+use Rattle.sheet.specs.Answers.{Answer, refused, accepted, after}
+use Rattle.writing.specs.Filled.{filling, filled}
+use Rattle.writing.specs.Answered.{answered}
+use Rattle.writing.specs.declared.Answer as declared
+use Rattle.margins.specs.Terms.{termsFor}
+use Rattle.margins.specs.Margins.{margin}
+use Rattle.grading.specs.Grade.{ownValues}
+use Rattle.grading.specs.Scale.{sharesOf}
+use Rattle.division_reading.specs.Stated.{Stated}
+use Rattle.judging.specs.Truth.{bundlesOf}
+use Rattle.judging.specs.Judging.{judging}
+use Rattle.judging.specs.Outcome.{outcome}
+use Rattle.judging.specs.declared.Answer.the-variants.{Refused, Accepted}
+use Rattle.judging.specs.declared.Outcome.{Outcome}
+use Rattle.judging.proofs.Accepted.{AcceptedDivision, accepted-division}
+use Rattle.sheet_to_judgement.specs.AcceptedText.{acceptedText}
+use Rattle.sheet_to_judgement.specs.internal.MarginsText.{marginsText}
+use Rattle.sheet_to_judgement.specs.internal.Printing.{printing}
+use Rattle.sheet_to_judgement.proofs.Texts.{marginsText-accepted}
+
+-- the margin of agent i, by the table and the bundles
+abbrev pub marginAt : ℕ → ℕ → List (List ℕ) → List (List ℕ) → ℕ → ℤ
+marginAt n m table bundles i = margin (termsFor n) (nth 0 (ownValues n (profile n m table) bundles) i) (nth 0 (sharesOf n m table) i)
+
+-- a buffer that held `old` and then holds `new`, where the answer is the code's for p
+abbrev Filling : Answer (List ℕ) → List ℕ → declared.Answer → List ℕ → Type 0
+Filling p old r new = (r ≡ answered p) × (new ≡ after filled p old)
+
+-- the case of an answer, from the code's
+refused-outcome : (a : Answer (List ℤ)) (number : ℕ) → outcome a .answer ≡ Refused number → a ≡ refused number
+refused-outcome (refused k) number e = cc
+refused-outcome (accepted margins) number e = cc
+
+accepted-outcome : (a : Answer (List ℤ)) → outcome a .answer ≡ Accepted → (margins : List ℤ) × (a ≡ accepted margins)
+accepted-outcome (refused k) e = let z : _≡_ {A = ℕ} 0 1 = cc in absurd (omega arith)
+accepted-outcome (accepted margins) e = (margins, cc)
+
+module _ (n m : ℕ) (table : List (List ℕ)) (stated : Option Stated) {o : Outcome} (judged : o ≡ outcome (judging n m table stated)) where
+  -- a refusal of judging is the answer
+  pub refusal-printed : {number : ℕ} → o .answer ≡ Refused number → (old : List ℕ) {new : List ℕ} {r : declared.Answer} → Filling (refused number) old r new
+      → Filling (printing n m table stated (length old)) old r new
+  unfolding printing
+  refusal-printed {number} e old f = rw (refused-outcome (judging n m table stated) number (sym (ap (λ o. o .answer) judged) ∙ e)) f
+
+  module _ (e : o .answer ≡ Accepted) where
+    margins-accepted : (margins : List ℤ) × (judging n m table stated ≡ accepted margins)
+    margins-accepted = accepted-outcome (judging n m table stated) (sym (ap (λ o. o .answer) judged) ∙ e)
+
+    division : AcceptedDivision n m table stated (margins-accepted .0)
+    division = accepted-division n m table stated (margins-accepted .0) (margins-accepted .1)
+
+    pub accepted-few : n ≤ mostAgents
+    accepted-few = division .counts .few
+
+    -- the text of the margins in the code's places
+    text-accepted : marginsText n (o .margins) ≡ acceptedText (margins-accepted .0)
+    text-accepted =
+        ap (λ o. marginsText n (o .margins)) (judged ∙ ap outcome (margins-accepted .1 ∙ ap accepted (division .margins-of)))
+        ∙ marginsText-accepted n (marginAt n m table (bundlesOf (division .division)))
+        ∙ ap acceptedText (sym (division .margins-of))
+
+    pub margins-printed : (old : List ℕ) {new : List ℕ} {r : declared.Answer} → Filling (filling (length old) (marginsText n (o .margins))) old r new
+        → Filling (printing n m table stated (length old)) old r new
+    unfolding printing
+    margins-printed old f = rw (margins-accepted .1, ← text-accepted) f

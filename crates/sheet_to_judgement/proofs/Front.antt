@@ -1,0 +1,54 @@
+-- What the outcome of a sheet at the front of a text says of the answer that follows it. Assumes nothing.
+use mathlib.Core.Path.{_≡_, sym, ap, ap₂, _∙_}
+use mathlib.Core.List.{List}
+use Prim.Native.Nat.{ℕ}
+use Rattle.sheet.specs.Limits.{mostAgents, mostItems, CountsWithin}
+use Rattle.sheet.specs.Answers.{Answer, refused, accepted}
+use Rattle.sheet.proofs.Limits.{within-bounds}
+use Rattle.sheet.specs.declared.Sheet.{Sheet}
+use Rattle.lexing.specs.Tokens.{Token}
+use Rattle.lexing.specs.Places.{tokensAt}
+use Rattle.reading.specs.Reading.{Contents, sheetOf, readingFront}
+use Rattle.reading.specs.Outcome.{outcome, tableIn, LeavesOff, ReadsFront}
+use Rattle.reading.specs.declared.Answer.the-variants.{Refused, Accepted}
+use Rattle.reading.specs.declared.Front.{Front}
+use Rattle.lexing.specs.declared.tokens.Cursor.{Cursor}
+use Rattle.reading.proofs.OutcomeTable.{tableIn-accepted}
+use Rattle.reading.proofs.AtFront.{front-passes}
+
+-- counts and a table
+abbrev pub contents : Sheet → List (List ℕ) → Contents
+contents counts table = record { agents = counts .agents; items = counts .items; table = table }
+
+-- the counts of a sheet that is accepted are within the limits
+pub readingFront-counts : (text : List ℕ) (c : Contents) (behind : List Token) → readingFront text ≡ accepted (c, behind) → CountsWithin (c .agents) (c .items)
+readingFront-counts text c behind e =
+    let a = front-passes text c behind e in
+    let agents = within-bounds mostAgents (c .agents) (a .agents-within) in
+    let items = within-bounds mostItems (c .items) (a .items-within) in
+    record { some = agents .0; few = agents .1; some-items = items .0; few-items = items .1 }
+
+refused-of : (a : Answer (Contents × List Token)) (number : ℕ) → outcome (sheetOf a) .answer ≡ Refused number → a ≡ refused number
+refused-of (refused k) number e = cc
+refused-of (accepted p) number e = cc
+
+accepted-of : (s : List ℕ) (place : Cursor) (a : Answer (Contents × List Token)) (counts : Sheet) → outcome (sheetOf a) .answer ≡ Accepted counts → LeavesOff s place a
+    → a ≡ accepted (contents counts (tableIn (outcome (sheetOf a) .rows)), tokensAt s place)
+accepted-of s place (refused k) counts e left = cc
+accepted-of s place (accepted (sheet, ts)) counts e left =
+    let same : counts ≡ record { agents = sheet .agents; items = sheet .items } = cc in
+    sym (ap accepted (ap₂ (λ c t. (c, t)) (ap₂ contents same (tableIn-accepted sheet)) (left .1)))
+
+module _ (text : List ℕ) {front : Front} (read : ReadsFront text front (readingFront text)) where
+  pub refused-front : {number : ℕ} → front .outcome .answer ≡ Refused number → readingFront text ≡ refused number
+  refused-front {number} e = refused-of (readingFront text) number (sym (ap (λ o. o .answer) (read .sheet-read)) ∙ e)
+
+  module _ {counts : Sheet} {table : List (List ℕ)} (e : front .outcome .answer ≡ Accepted counts) (rows : table ≡ tableIn (front .outcome .rows)) where
+    pub accepted-front : readingFront text ≡ accepted (contents counts table, tokensAt text (front .next))
+    accepted-front =
+        accepted-of text (front .next) (readingFront text) counts (sym (ap (λ o. o .answer) (read .sheet-read)) ∙ e) (read .left-off)
+        ∙ sym (ap (λ t. accepted (contents counts t, tokensAt text (front .next))) (rows ∙ ap (λ o. tableIn (o .rows)) (read .sheet-read)))
+
+    -- the counts are within the limits
+    pub front-counts : CountsWithin (counts .agents) (counts .items)
+    front-counts = readingFront-counts text (contents counts table) (tokensAt text (front .next)) accepted-front
