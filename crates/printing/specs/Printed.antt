@@ -51,3 +51,8 @@ agentLine agents items table d i = yardLine agents items i (valuation table i) (
 -- the printed division of a table
 unfoldable pub printed : ℕ → ℕ → List (List ℕ) → Division → List ℕ
 printed agents items table d = allLines agents items (d .grade) (agentLine agents items table d) (d .cutters)
+
+-- document 02, order 5: "a division as the box prints it, but without the cutters line"
+unfoldable pub printedWithoutCutters : ℕ → ℕ → List (List ℕ) → Division → List ℕ
+printedWithoutCutters agents items table d =
+    headLine agents items (d .grade) ++ flatMap (agentLine agents items table d) (range 1 agents) ++ bytes "(end)\n"

@@ -1,0 +1,118 @@
+-- The tokens of a division's lines are read to what they were made of, for each reader of the grammar. Assumes nothing.
+use mathlib.Core.Path.{_≡_, refl}
+use mathlib.Core.List.{List, [], _∷_, _++_, map, flatMap, append-assoc, append-nil, List·Memᴰ as Mem, List·Memᴰ·head as here, List·Memᴰ·tail as there}
+use mathlib.Core.List.{Sublistᴰ as Sublist}
+use mathlib.Core.Option.{some}
+use mathlib.Core.Bool.{false}
+use Prim.Native.Nat.{ℕ, _^_, _≤_, _<_}
+use Prim.Native.String.{String}
+use native.Mathlib.Omega.{arith}
+use borrow.Author.Tests.{lt-ltb, le-leb}
+use Rattle.lists.specs.Lists.{range, Rising}
+use Rattle.lists.proofs.ranges.Ranges.{range-bounds}
+use Rattle.lists.proofs.ranges.RangeSublists.{range-sublist-rising}
+use Rattle.lists.proofs.members.Counting.{sublist-mem}
+use Rattle.text.specs.Decimal.{decimal}
+use Rattle.sheet.specs.Limits.{mostAgents, mostItems, countDigits, sumDigits}
+use Rattle.lexing.specs.Lines.{lines, onFirst, beforeRemark}
+use Rattle.lexing.specs.Tokens.{Token, closing, extended, words, lineTokens as tokensOfLine, tokens}
+use Rattle.lexing.specs.Forms.{ended, follow, form}
+use Rattle.lexing.specs.Numbers.{isNumber}
+use Rattle.lexing.proofs.readers.Decimal.{decimal-value, decimal-isNumber}
+use Rattle.lexing.proofs.readers.Written.{follow-append, numberAfter-decimal, followNumber-decimal, inTurn-range}
+use Rattle.reading.specs.SheetForms.{beforeItems, beforeTurn, lineEnd, lastLine}
+use Rattle.reading.specs.Grammar.{endLine}
+use Rattle.division_reading.specs.DivisionForms.{beforeCounts, beforeGrade, beforePile, beforeWorth, beforeShare, beforeCut, beforeCutPile, pileEnd}
+use Rattle.division_reading.specs.Stated.{StatedLine}
+use Rattle.division_reading.specs.Grammar.{gradeDigits, risingItems, bundleAfter, bundleInTurn, amounts, cutBundles, yardLine, head, divisionText}
+use Rattle.own_divisions.proofs.DivisionTokens.{headTokens, bundleTokens, amountsTokens, cutTokens, lineTokens, divisionTokens}
+
+-- the bracket behind the items of a bundle, which is no number
+closing-form : form pileEnd ≡ (closing ∷ []) ∷ []
+unfolding tokens tokensOfLine words extended lines onFirst beforeRemark flatMap
+closing-form = refl
+
+closing-no-number : isNumber countDigits (closing ∷ []) ≡ false
+unfolding isNumber
+closing-no-number = refl
+
+-- the line `(end)`, with nothing behind it
+endLine-form : endLine ended (form lastLine) ≡ some []
+unfolding endLine
+endLine-form =
+    let followed : follow (form lastLine) (form lastLine) ≡ some [] = rw (append-nil (form lastLine)) at (follow-append (form lastLine) []) in
+    rw followed
+
+-- rising items of the sheet, up to that bracket
+risingItems-decimals : (items above : ℕ) (ks : List ℕ) (ts : List Token) → items < 10 ^ countDigits → Rising ks → ((k : ℕ) → Mem k ks → (above < k) × (k ≤ items))
+    → risingItems items above (map decimal ks ++ (form pileEnd ++ ts)) ≡ some (ks, form pileEnd ++ ts)
+unfolding risingItems
+risingItems-decimals items above [] ts few rising each = rw (closing-form, closing-no-number)
+risingItems-decimals items above (k ∷ ks) ts few rising each =
+    let b = each k (here refl) in
+    let later = risingItems-decimals items k ks ts few (rising .1) (λ j m. (rising .0 j m, each j (there m) .1)) in
+    rw (decimal-isNumber countDigits k (omega arith) (omega arith), decimal-value k, lt-ltb above k (b .0), le-leb k items (b .1), later)
+
+module _ (items : ℕ) (few-items : items ≤ mostItems) where
+  bundleAfter-bundleTokens : (before : String) {bundle : List ℕ} (ts : List Token) → Sublist bundle (range 1 items)
+      → bundleAfter (form before) items (bundleTokens before bundle ++ ts) ≡ some (bundle, ts)
+  unfolding bundleAfter bundleTokens
+  bundleAfter-bundleTokens before {bundle} ts s =
+      let each : (k : ℕ) → Mem k bundle → (0 < k) × (k ≤ items) = λ k m. let b = range-bounds 1 items (sublist-mem s m) in omega arith in
+      let rising = risingItems-decimals items 0 bundle ts (omega arith) (range-sublist-rising items s) each in
+      simp append-assoc (rw (follow-append (form before) _, rising, follow-append (form pileEnd) ts))
+
+  bundleInTurn-tokens : (turn : ℕ) {bundle : List ℕ} (ts : List Token) → turn < 10 ^ countDigits → Sublist bundle (range 1 items)
+      → bundleInTurn items turn (form beforeTurn ++ decimal turn ∷ (bundleTokens beforePile bundle ++ ts)) ≡ some (bundle, ts)
+  unfolding bundleInTurn
+  bundleInTurn-tokens turn ts h s = rw (followNumber-decimal countDigits turn (omega arith) h (form beforeTurn)) (bundleAfter-bundleTokens beforePile ts s)
+
+  cutBundles-cutTokens : (agents : ℕ) (cut : ℕ → List ℕ) (ts : List Token) → ((c : ℕ) → Sublist (cut c) (range 1 items))
+      → cutBundles agents items (cutTokens agents cut ++ ts) ≡ some (map cut (range 1 agents), ts)
+  unfolding cutTokens
+  cutBundles-cutTokens agents cut ts s =
+      inTurn-range (λ number. bundleAfter (form beforeCutPile) items) cut (λ c. bundleTokens beforeCutPile (cut c)) 1 agents ts
+      (λ c m us. bundleAfter-bundleTokens beforeCutPile us (s c))
+
+amounts-amountsTokens : (worth share : ℕ) (ts : List Token) → worth < 10 ^ sumDigits → share < 10 ^ sumDigits
+    → amounts (amountsTokens worth share ++ ts) ≡ some (worth, share, ts)
+unfolding amounts amountsTokens
+amounts-amountsTokens worth share ts small small-share =
+    simp append-assoc
+    (rw (numberAfter-decimal sumDigits worth (omega arith) small (form beforeWorth), numberAfter-decimal sumDigits share (omega arith) small-share (form beforeShare), follow-append (form beforeCut) ts))
+
+-- a yard line that can be read: its bundle and those of its cut are of the items, its sums have at most so many digits
+pub record ReadableLine (items : ℕ) (bundle : List ℕ) (worth share : ℕ) (cut : ℕ → List ℕ) : Type 0 where
+  pub of-items : Sublist bundle (range 1 items)
+  pub worth-small : worth < 10 ^ sumDigits
+  pub share-small : share < 10 ^ sumDigits
+  pub cut-of-items : (c : ℕ) → Sublist (cut c) (range 1 items)
+
+module _ (agents items : ℕ) (few : agents ≤ mostAgents) (few-items : items ≤ mostItems) where
+  abbrev lineOf : List ℕ → ℕ → ℕ → (ℕ → List ℕ) → StatedLine
+  lineOf bundle worth share cut = record { bundle = bundle; worth = worth; share = share; cut = map cut (range 1 agents) }
+
+  yardLine-lineTokens : (turn : ℕ) {bundle : List ℕ} {worth share : ℕ} {cut : ℕ → List ℕ} (ts : List Token) → turn < 10 ^ countDigits → ReadableLine items bundle worth share cut
+      → yardLine agents items turn (lineTokens agents turn bundle worth share cut ++ ts) ≡ some (lineOf bundle worth share cut, ts)
+  unfolding yardLine lineTokens
+  yardLine-lineTokens turn {bundle} {worth} {share} {cut} ts h p =
+      simp append-assoc
+      (rw (bundleInTurn-tokens items few-items turn _ h (p .of-items), amounts-amountsTokens worth share _ (p .worth-small) (p .share-small), cutBundles-cutTokens items few-items agents cut _ (p .cut-of-items), follow-append (form lineEnd) ts))
+
+  head-headTokens : (grade : ℕ) (ts : List Token) → grade < 10 ^ gradeDigits → head agents items (headTokens agents items grade ++ ts) ≡ some (grade, ts)
+  unfolding head headTokens
+  head-headTokens grade ts small =
+      simp append-assoc
+      (rw (followNumber-decimal countDigits agents (omega arith) (omega arith) (form beforeCounts), followNumber-decimal countDigits items (omega arith) (omega arith) (form beforeItems), numberAfter-decimal gradeDigits grade (omega arith) small (form beforeGrade), follow-append (form lineEnd) ts))
+
+  -- a division of such lines: agent i's line has bundle i, worth i, ..
+  module _ (grade : ℕ) (bundle : ℕ → List ℕ) (worth share : ℕ → ℕ) (cut : ℕ → ℕ → List ℕ) where
+    pub divisionText-divisionTokens : grade < 10 ^ gradeDigits → ((i : ℕ) → Mem i (range 1 agents) → ReadableLine items (bundle i) (worth i) (share i) (cut i))
+        → divisionText agents items (divisionTokens agents items grade (λ i. lineTokens agents i (bundle i) (worth i) (share i) (cut i)))
+        ≡ some (record { grade = grade; lines = map (λ i. lineOf (bundle i) (worth i) (share i) (cut i)) (range 1 agents) })
+    unfolding divisionText divisionTokens
+    divisionText-divisionTokens small readable =
+        let lines-read =
+        inTurn-range (yardLine agents items) (λ i. lineOf (bundle i) (worth i) (share i) (cut i)) (λ i. lineTokens agents i (bundle i) (worth i) (share i) (cut i)) 1 agents (form lastLine)
+        (λ i m us. let b = range-bounds 1 agents m in yardLine-lineTokens i us (omega arith) (readable i m)) in
+        simp append-assoc (rw (head-headTokens grade _ small, lines-read, endLine-form))

@@ -1,0 +1,2 @@
+-- What a division that the box prints states.
+pub mod StatedBy
