@@ -1,11 +1,12 @@
 //! Tells the linker where the libraries stand; only the programs that compare need them.
 
-const LIBRARIES: [(&str, &str); 5] = [
+const LIBRARIES: [(&str, &str); 6] = [
     ("COMPARE", "libshareout_c.a"),
     ("CUTS", "libcut_c.a"),
     ("DIVISIONS", "libdivision_c.a"),
     ("STRICT", "libstrict_c.a"),
     ("EXACT", "libexact_c.a"),
+    ("JUDGE", "libjudge_c.a"),
 ];
 
 fn main() {

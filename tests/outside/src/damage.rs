@@ -10,6 +10,7 @@ use crate::generator::Generator;
 use crate::limits::LONGEST_TEXT;
 
 pub use bytes::one_byte_away;
+pub use numbers::numbers;
 #[cfg(test)]
 pub use numbers::renumbered;
 
@@ -38,7 +39,7 @@ pub const KINDS: [(&str, Kind); 18] = [
 
 /// A small sheet in which refusals 1 and 3 to 8 each have their reason with one chance in three, so
 /// that their order shows.
-fn several_reasons(generator: &mut Generator, _: &[u8]) -> Vec<u8> {
+pub fn several_reasons(generator: &mut Generator, _: &[u8]) -> Vec<u8> {
     let spaces = " ".repeat(LONGEST_TEXT);
     let mut either = |good, bad| if generator.below(3) == 0 { bad } else { good };
     let yards = either("2", "7");

@@ -19,6 +19,13 @@ pub struct Division {
     pub tied_rounds: Vec<usize>,
 }
 
+impl Division {
+    /// Each agent's maximin share.
+    pub fn shares(&self) -> Vec<u64> {
+        self.cuts.iter().map(|cut| cut.share).collect()
+    }
+}
+
 pub fn divide(sheet: &Sheet) -> Division {
     divide_by(sheet, sheet.marks.iter().map(|row| cut(row, sheet.yards)).collect())
 }
@@ -82,10 +89,8 @@ fn suitable(sheet: &Sheet, division: &Division, agent: usize, bundles: &[Vec<usi
 /// The cutter's cut of the items left, as lists of items.
 fn cut_into_bundles(row: &[u64], items: &[usize], count: usize) -> Vec<Vec<usize>> {
     let marks: Vec<u64> = items.iter().map(|item| row[*item]).collect();
-    let layout = cut(&marks, count).layout;
-    let mut bundles = vec![Vec::new(); count];
-    items.iter().zip(layout).for_each(|(item, bundle)| bundles[bundle - 1].push(*item));
-    bundles
+    let bundles = cut(&marks, count).bundles(count).into_iter();
+    bundles.map(|bundle| bundle.into_iter().map(|place| items[place]).collect()).collect()
 }
 
 #[cfg(test)]
@@ -102,7 +107,7 @@ mod tests {
             let division = divide(&sheet);
             assert!(keeps_promise(&sheet, &division));
             let from_one = |list: &Vec<usize>| list.iter().map(|k| k + 1).collect::<Vec<usize>>();
-            let shares: Vec<u64> = division.cuts.iter().map(|cut| cut.share).collect();
+            let shares = division.shares();
             let bundles: Vec<Vec<usize>> = division.bundles.iter().map(from_one).collect();
             let cutters = from_one(&division.cutters);
             assert_eq!(

@@ -1,29 +1,41 @@
 //! Grades a division: "The loft's custom, from the whole division; the first that fits", with the even
-//! test of order 2, and with the one before it.
+//! test of order 2, and with the one before it, and the fifth grade of order 5.
 
 use crate::division::{worth, Division};
+use crate::ratio::margin;
 use crate::reader::Sheet;
 
-/// Whether a division passes the tests for grades 1, 2 and 3.
-pub type Tests = [bool; 3];
+/// Whether a division passes the tests for grades 1 to 4.
+pub type Tests = [bool; 4];
 
 /// Order 2: "a division is even when N times the worth of each pile is at least its yard's total",
 /// which is when the worth is at least the total divided by N, the quotient rounded up.
 pub fn tests(sheet: &Sheet, division: &Division) -> Tests {
-    tests_by(sheet, division, u64::div_ceil)
+    tests_of(sheet, &division.bundles, &division.shares())
+}
+
+/// The same of any bundles, with the agents' maximin shares.
+pub fn tests_of(sheet: &Sheet, bundles: &[Vec<usize>], shares: &[u64]) -> Tests {
+    tests_by(sheet, bundles, shares, u64::div_ceil)
 }
 
 /// Before order 2 the quotient was rounded down.
 pub fn tests_before_order_2(sheet: &Sheet, division: &Division) -> Tests {
-    tests_by(sheet, division, |total, yards| total / yards)
+    tests_by(sheet, &division.bundles, &division.shares(), |total, yards| total / yards)
 }
 
+/// Order 5: "4 now needs every margin to be zero or more, and 5 is the rest".
 pub fn grade(tests: Tests) -> u8 {
-    tests.iter().position(|passed| *passed).map_or(4, |place| place as u8 + 1)
+    tests.iter().position(|passed| *passed).map_or(5, |place| place as u8 + 1)
 }
 
-fn tests_by(sheet: &Sheet, division: &Division, quotient: impl Fn(u64, u64) -> u64) -> Tests {
-    let (bundles, yards) = (&division.bundles, sheet.yards);
+fn tests_by(
+    sheet: &Sheet,
+    bundles: &[Vec<usize>],
+    shares: &[u64],
+    quotient: impl Fn(u64, u64) -> u64,
+) -> Tests {
+    let yards = sheet.yards;
     let own = |agent: usize| worth(&sheet.marks[agent], &bundles[agent]);
     let total = |agent: usize| sheet.marks[agent].iter().sum();
     let envies =
@@ -31,13 +43,14 @@ fn tests_by(sheet: &Sheet, division: &Division, quotient: impl Fn(u64, u64) -> u
     [
         (0..yards).all(|agent| !bundles.iter().any(|bundle| envies(agent, bundle))),
         (0..yards).all(|agent| own(agent) >= quotient(total(agent), yards as u64)),
-        (0..yards).all(|agent| own(agent) >= division.cuts[agent].share),
+        (0..yards).all(|agent| own(agent) >= shares[agent]),
+        (0..yards).all(|agent| margin(yards, own(agent), shares[agent]) >= 0),
     ]
 }
 
 #[cfg(test)]
 mod tests {
-    use super::{grade, tests, tests_before_order_2};
+    use super::{grade, tests, tests_before_order_2, tests_of};
     use crate::division::divide;
     use crate::reader::Sheet;
 
@@ -57,5 +70,18 @@ mod tests {
         assert_eq!(grades([6, 2, 3]), [2, 3]);
         assert_eq!(grades([7, 2, 3]), [3, 3]);
         assert_eq!(grades([5, 1, 4]), [2, 2]);
+    }
+
+    /// Of sheet c: yard 2 with the third piece has a margin of 0, with the fourth one of less.
+    #[test]
+    fn a_margin_below_zero_is_grade_5() {
+        let sheet = Sheet::of(vec![vec![1; 4], vec![4, 4, 3, 1], vec![1; 4]]);
+        let graded = |piles: [&[usize]; 3]| {
+            grade(tests_of(&sheet, &piles.map(|pile| pile.to_vec()), &[1, 4, 1]))
+        };
+        assert_eq!(graded([&[0, 1], &[2], &[3]]), 4);
+        assert_eq!(graded([&[0, 1], &[3], &[2]]), 5);
+        assert_eq!(graded([&[], &[], &[0, 1, 2, 3]]), 5);
+        assert_eq!(graded([&[2], &[0, 1], &[3]]), 3);
     }
 }

@@ -16,6 +16,16 @@ pub enum Due {
     Refused(u8),
 }
 
+impl Due {
+    /// The refusal's number, or 0.
+    pub fn number(&self) -> u8 {
+        match self {
+            Due::Text(_) => 0,
+            Due::Refused(refusal) => *refusal,
+        }
+    }
+}
+
 /// Knows what is due for each text.
 pub trait Solver {
     /// Whether a text that is due for some text is due for itself.

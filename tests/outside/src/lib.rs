@@ -1,6 +1,6 @@
-//! A solver for document 01, with orders 1 to 4 of document 02, that shares no code with the library it is
+//! A solver for document 01, with orders 1 to 5 of document 02, that shares no code with the library it is
 //! held against, reads by rewriting lines, and finds shares, cuts, waiting sets, servings and exact
-//! divisions by other methods.
+//! divisions by other methods, and judges other people's divisions by lists of their pieces.
 //! Yards (agents) and pieces (items) are counted from 0 inside, and from 1 in texts.
 
 pub mod cuts;
@@ -12,6 +12,7 @@ pub mod families;
 pub mod generator;
 pub mod grades;
 pub mod harness;
+pub mod judging;
 pub mod kinds;
 pub mod limits;
 pub mod met;
@@ -28,6 +29,7 @@ pub mod serving;
 pub mod sets;
 pub mod share;
 pub mod spelling;
+pub mod stated;
 pub mod strict;
 pub mod tables;
 pub mod ties;

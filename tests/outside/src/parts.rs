@@ -3,7 +3,7 @@
 
 use crate::damage;
 use crate::generator::Generator;
-use crate::harness::{Buffers, Due, Harness, Solver};
+use crate::harness::{Buffers, Harness, Solver};
 use crate::reader::Sheet;
 use crate::samples::{texts_of_j, SHEETS, TYPED};
 use crate::strict::strict_text;
@@ -15,7 +15,7 @@ pub const SEVERAL_BUFFERS: usize = 5;
 
 type Passed = Result<usize, String>;
 
-fn buffers(number: usize, several: usize) -> Buffers {
+pub fn buffers(number: usize, several: usize) -> Buffers {
     match number % several {
         0 => Buffers::Several,
         _ => Buffers::Large,
@@ -59,9 +59,19 @@ pub fn one_byte_away<S: Solver>(harness: &mut Harness<S>, text: &str) -> Passed 
 
 /// Texts of one kind of damage.
 pub fn damaged<S: Solver>(harness: &mut Harness<S>, kind: usize, number: usize) -> Passed {
+    damaged_from(harness, kind, number, |generator| strict_text(&any(generator)))
+}
+
+/// The same with texts of these sources.
+pub fn damaged_from<S: Solver>(
+    harness: &mut Harness<S>,
+    kind: usize,
+    number: usize,
+    source: impl Fn(&mut Generator) -> Vec<u8>,
+) -> Passed {
     let mut generator = Generator::new(1_000 + kind as u64);
     let damaged = (0..number).map(|_| {
-        let text = strict_text(&any(&mut generator));
+        let text = source(&mut generator);
         damage::KINDS[kind].1(&mut generator, &text)
     });
     texts(harness, damaged, SEVERAL_BUFFERS)
@@ -79,9 +89,8 @@ pub fn typed<S: Solver>(harness: &mut Harness<S>, kind: usize, number: usize) ->
             return Err(format!("not as its kind says, {name}: {}", text.escape_ascii()));
         }
         let due = harness.check(&text, buffers(number, SEVERAL_BUFFERS))?;
-        let refusal = if let Due::Refused(refusal) = due { refusal } else { 0 };
         if text != source {
-            harness.counts.kinds.count(name, usize::from(refusal));
+            harness.counts.kinds.count(name, usize::from(due.number()));
         }
     }
     Ok(number)

@@ -1,9 +1,17 @@
-//! Marks made for given piles: `pile_of` has the pile of each piece, from 0.
+//! Whether piles part the pieces; and marks made for given piles: `pile_of` has the pile of each piece,
+//! from 0.
 
 use crate::generator::Generator;
 
 /// A worth that up to twelve pieces can share evenly.
 pub const PILE_WORTH: u64 = 27_720;
+
+/// Whether each piece of so many is in exactly one of the piles.
+pub fn each_piece_once(piles: &[Vec<usize>], pieces: usize) -> bool {
+    let mut handed_out: Vec<usize> = piles.concat();
+    handed_out.sort();
+    handed_out == (0..pieces).collect::<Vec<usize>>()
+}
 
 /// The number of pieces in a pile.
 pub fn size(pile_of: &[usize], pile: usize) -> u64 {

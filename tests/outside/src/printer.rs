@@ -1,7 +1,8 @@
 //! Prints a division (document 01, "The printed division").
 
-use crate::division::{divide, worth, Division};
+use crate::division::{divide, Division};
 use crate::reader::{read, Sheet};
+use crate::stated::Stated;
 
 /// From a text to the printed division, or the refusal's number.
 pub fn shareout(text: &[u8]) -> Result<Vec<u8>, u8> {
@@ -9,35 +10,36 @@ pub fn shareout(text: &[u8]) -> Result<Vec<u8>, u8> {
     Ok(print(&sheet, &divide(&sheet)))
 }
 
+/// What a program prints: the text, or "one line such as `(refused 4)`".
+pub fn output(answer: Result<Vec<u8>, u8>) -> Vec<u8> {
+    answer.unwrap_or_else(|refusal| format!("(refused {refusal})\n").into_bytes())
+}
+
 pub fn print(sheet: &Sheet, division: &Division) -> Vec<u8> {
-    let (yards, pieces, grade) = (sheet.yards, sheet.pieces, division.grade);
-    let mut text = format!("(division (yards {yards}) (pieces {pieces}) (grade {grade}))\n");
-    for agent in 0..yards {
-        text += &yard_line(sheet, division, agent);
-    }
-    text += &format!("{}\n(end)\n", group("cutters", &division.cutters));
-    text.into_bytes()
+    let stated = Stated::of(sheet, &division.bundles, &division.cuts);
+    let text = lines(sheet, &stated).concat();
+    (text + &group("cutters", &division.cutters) + "\n(end)\n").into_bytes()
+}
+
+/// The head and the yard lines, each with its line feed.
+pub fn lines(sheet: &Sheet, stated: &Stated) -> Vec<String> {
+    let (yards, pieces, grade) = (sheet.yards, sheet.pieces, stated.grade);
+    let head = format!("(division (yards {yards}) (pieces {pieces}) (grade {grade}))\n");
+    let yard_lines = (0..yards).map(|agent| yard_line(stated, agent));
+    std::iter::once(head).chain(yard_lines).collect()
 }
 
 /// "A yard line has the pieces it gets, their worth by its marks, its share, and its cut of all
 /// pieces into N piles."
-fn yard_line(sheet: &Sheet, division: &Division, agent: usize) -> String {
-    let bundle = &division.bundles[agent];
-    let cut = &division.cuts[agent];
-    let cut_bundles: Vec<String> = (1..=sheet.yards)
-        .map(|number| {
-            let items: Vec<usize> =
-                (0..sheet.pieces).filter(|item| cut.layout[*item] == number).collect();
-            format!("({})", numbers(&items))
-        })
-        .collect();
+fn yard_line(stated: &Stated, agent: usize) -> String {
+    let cut = stated.cuts[agent].iter().map(|bundle| format!("({})", numbers(bundle)));
     format!(
         "(yard {} {} (worth {}) (share {}) (cut {}))\n",
         agent + 1,
-        group("pile", bundle),
-        worth(&sheet.marks[agent], bundle),
-        cut.share,
-        cut_bundles.join(" ")
+        group("pile", &stated.bundles[agent]),
+        stated.worths[agent],
+        stated.shares[agent],
+        cut.collect::<Vec<String>>().join(" ")
     )
 }
 

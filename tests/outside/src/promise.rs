@@ -2,13 +2,12 @@
 //! pile worth at least top / bottom of its yard's maximin share.
 
 use crate::division::{worth, Division};
+use crate::piles::each_piece_once;
 use crate::ratio::top_and_bottom;
 use crate::reader::Sheet;
 
 pub fn keeps_promise(sheet: &Sheet, division: &Division) -> bool {
-    let mut handed_out: Vec<usize> = division.bundles.concat();
-    handed_out.sort();
-    handed_out == (0..sheet.pieces).collect::<Vec<usize>>()
+    each_piece_once(&division.bundles, sheet.pieces)
         && division.bundles.len() == sheet.yards
         && (0..sheet.yards).all(|agent| holds_its_part(sheet, division, agent))
 }

@@ -4,7 +4,7 @@
 use crate::limits::{GREATEST_MARK, LONGEST_TEXT, MARK_DIGITS, MOST_PIECES, MOST_YARDS};
 use crate::spelling::strict_spelling;
 
-#[derive(Debug, PartialEq)]
+#[derive(Clone, Debug, PartialEq)]
 pub struct Sheet {
     pub yards: usize,
     pub pieces: usize,
@@ -19,17 +19,37 @@ impl Sheet {
     }
 }
 
-/// "Each is looked for over the whole input before the following one." Of order 1: "Layout is judged
-/// after that; refusals 1 and 2 count the bytes as typed."
+/// "Each is looked for over the whole input before the following one."
 pub fn read(text: &[u8]) -> Result<Sheet, u8> {
-    if text.len() > LONGEST_TEXT {
-        return Err(1);
+    let text = spelling(text)?;
+    let (sheet, rest) = through_the_yards(&text)?;
+    match rest {
+        b"(end)\n" => within_the_limit(sheet),
+        _ => Err(7),
     }
-    if text.is_empty() {
-        return Err(2);
+}
+
+/// Order 5: "a sheet through its `(end)` line (in this reading refusal 7 is given only where that line
+/// does not follow the yard lines)", and what follows, in the same spelling.
+pub fn read_through_end(text: &[u8]) -> Result<(Sheet, Vec<u8>), u8> {
+    let text = spelling(text)?;
+    let (sheet, rest) = through_the_yards(&text)?;
+    let rest = rest.strip_prefix(b"(end)\n").ok_or(7)?;
+    Ok((within_the_limit(sheet)?, rest.to_vec()))
+}
+
+/// Of order 1: "Layout is judged after that; refusals 1 and 2 count the bytes as typed."
+fn spelling(text: &[u8]) -> Result<Vec<u8>, u8> {
+    match text.len() {
+        0 => Err(2),
+        1..=LONGEST_TEXT => Ok(strict_spelling(text)),
+        _ => Err(1),
     }
-    let text = strict_spelling(text);
-    let (head, mut rest) = first_line(&text).ok_or(3)?;
+}
+
+/// The head and the yard lines, and the text after them.
+fn through_the_yards(text: &[u8]) -> Result<(Sheet, &[u8]), u8> {
+    let (head, mut rest) = first_line(text).ok_or(3)?;
     let (yards, pieces) = head_line(head).ok_or(3)?;
     if !(1..=MOST_YARDS).contains(&yards) {
         return Err(4);
@@ -43,13 +63,14 @@ pub fn read(text: &[u8]) -> Result<Sheet, u8> {
         marks.push(yard_line(line, number, pieces).ok_or(6)?);
         rest = after;
     }
-    if rest != b"(end)\n" {
-        return Err(7);
+    Ok((Sheet { yards, pieces, marks }, rest))
+}
+
+fn within_the_limit(sheet: Sheet) -> Result<Sheet, u8> {
+    match sheet.marks.iter().flatten().any(|mark| *mark > GREATEST_MARK) {
+        true => Err(8),
+        false => Ok(sheet),
     }
-    if marks.iter().flatten().any(|mark| *mark > GREATEST_MARK) {
-        return Err(8);
-    }
-    Ok(Sheet { yards, pieces, marks })
 }
 
 /// The first line without its line feed, and the text after that line feed.
@@ -78,7 +99,7 @@ fn yard_line(line: &[u8], due: usize, pieces: usize) -> Option<Vec<u64>> {
 }
 
 /// "Numbers have no leading zero; zero is `0`."
-fn number(word: &[u8], most_digits: usize) -> Option<u64> {
+pub fn number(word: &[u8], most_digits: usize) -> Option<u64> {
     let digits_only = word.iter().all(u8::is_ascii_digit);
     let leading_zero = word.len() > 1 && word[0] == b'0';
     if word.is_empty() || word.len() > most_digits || !digits_only || leading_zero {
@@ -89,7 +110,7 @@ fn number(word: &[u8], most_digits: usize) -> Option<u64> {
 
 #[cfg(test)]
 mod tests {
-    use super::read;
+    use super::{read, read_through_end};
     use crate::limits::LONGEST_TEXT;
     use crate::samples::{texts_of_j, SHEET_A};
 
@@ -131,6 +152,18 @@ mod tests {
         assert_eq!(with_mark("5000000000", "(end)"), 8);
         assert_eq!(with_mark("5000000000", "(END)"), 7);
         assert_eq!(with_mark("50000000000", "(END)"), 6);
+    }
+
+    #[test]
+    fn what_follows_the_end_line_is_left_to_others() {
+        let through_end = |text: &str| read_through_end(text.as_bytes()).map(|(_, rest)| rest);
+        assert_eq!(through_end(SHEET_A), Ok(vec![]));
+        assert_eq!(through_end(&(SHEET_A.to_owned() + "; \n x  (y)")), Ok(b"x (y)".to_vec()));
+        assert_eq!(through_end(SHEET_A.trim_end()), Err(7));
+        assert_eq!(through_end(&SHEET_A.replace("(end)", "(end) x")), Err(7));
+        assert_eq!(through_end(&SHEET_A.replace("5 3 4", "5 3 5000000000")), Err(8));
+        assert_eq!(through_end(&SHEET_A.replace("5 3 4", "5 3 04")), Err(6));
+        assert_eq!(through_end(""), Err(2));
     }
 
     /// Sheet a with this change carries the same counts and marks.

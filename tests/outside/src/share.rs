@@ -9,6 +9,15 @@ pub struct Cut {
     pub layout: Vec<usize>,
 }
 
+impl Cut {
+    /// The items of each of so many bundles, rising.
+    pub fn bundles(&self, count: usize) -> Vec<Vec<usize>> {
+        let mut bundles = vec![Vec::new(); count];
+        self.layout.iter().enumerate().for_each(|(item, bundle)| bundles[bundle - 1].push(item));
+        bundles
+    }
+}
+
 pub fn cut(marks: &[u64], bundles: usize) -> Cut {
     let share = maximin_share(marks, bundles);
     Cut { share, layout: first_layout(marks, bundles, share) }

@@ -3,7 +3,7 @@
 
 use std::io::Write;
 
-use outside::printer::shareout;
+use outside::printer::{output, shareout};
 use outside::samples::{texts_of_j, SHEETS};
 
 fn main() -> std::io::Result<()> {
@@ -17,11 +17,7 @@ fn main() -> std::io::Result<()> {
 }
 
 fn show(name: &str, text: &[u8]) -> std::io::Result<()> {
-    let answer = match shareout(text) {
-        Ok(printed) => printed,
-        Err(refusal) => format!("(refused {refusal})\n").into_bytes(),
-    };
     let mut out = std::io::stdout();
     writeln!(out, "{name}")?;
-    out.write_all(&answer)
+    out.write_all(&output(shareout(text)))
 }

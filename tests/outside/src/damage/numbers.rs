@@ -4,7 +4,7 @@ use super::bytes::byte_altered;
 use crate::generator::Generator;
 
 /// Start and end of each run of digits.
-fn numbers(text: &[u8]) -> Vec<(usize, usize)> {
+pub fn numbers(text: &[u8]) -> Vec<(usize, usize)> {
     let is_digit = |place: &usize| text.get(*place).is_some_and(u8::is_ascii_digit);
     let starts =
         (0..text.len()).filter(|place| is_digit(place) && (*place == 0 || !is_digit(&(place - 1))));

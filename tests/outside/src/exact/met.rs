@@ -46,7 +46,7 @@ impl Met {
     /// has to say of grades does not hold.
     pub fn solve(&mut self, sheet: &Sheet) -> Result<Solution, String> {
         let box_division = divide(sheet);
-        let shares: Vec<u64> = box_division.cuts.iter().map(|cut| cut.share).collect();
+        let shares = box_division.shares();
         let division = exact_division(sheet, &shares);
         let ways = exact_ways(sheet, &shares);
         let solution = Solution { shares, division };

@@ -5,6 +5,7 @@
 use super::line::shown;
 use super::met::Met;
 use crate::harness::{Due, Entry, Solver, LARGE_BUFFER};
+use crate::printer;
 use crate::reader::{read, Sheet};
 
 /// Judges what the entry shows.
@@ -46,7 +47,7 @@ fn judge_line(met: &mut Met, sheet: &Sheet, line: &[u8]) -> Result<(), String> {
 pub fn judge_output(text: &[u8], output: &[u8]) -> Result<(), String> {
     match read(text) {
         Ok(sheet) => judge_line(&mut Met::default(), &sheet, output),
-        Err(refusal) if output == format!("(refused {refusal})\n").as_bytes() => Ok(()),
+        Err(refusal) if output == printer::output(Err(refusal)) => Ok(()),
         Err(refusal) => Err(format!("refusal {refusal} is due: {}", output.escape_ascii())),
     }
 }
