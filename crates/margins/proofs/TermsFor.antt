@@ -1,18 +1,31 @@
--- The terms for a number of agents: document 01's table of them, how great they are, and that no more than the whole share is promised.
+-- The terms for a number of agents: what K is, document 01's table of them, how great they are, and that no more than the whole share is promised.
 -- Assumes nothing.
 use mathlib.Core.Path.{_≡_, refl}
 use mathlib.Core.List.{[], _∷_, map}
-use Prim.Native.Nat.{ℕ, _≤_}
+use Prim.Native.Nat.{ℕ, _%_, _≤_}
 use native.Mathlib.Omega.{arith}
+use Rattle.lists.specs.Lists.{range}
 use Rattle.sheet.specs.Limits.{mostAgents}
 use Rattle.margins.specs.Terms.{largestOdd, termsFor}
-use Rattle.margins.specs.declared.Terms.{Terms}
 
--- top and bottom in the table of "Rounds"
-abbrev over : ℕ → ℕ → Terms
-over top bottom = record { top = top; bottom = bottom }
+-- K is odd, not above n, and the largest such number
+pub largestOdd-largest : (n : ℕ) → 1 ≤ n → (largestOdd n % 2 ≡ 1) × (largestOdd n ≤ n) × ((k : ℕ) → k % 2 ≡ 1 → k ≤ n → k ≤ largestOdd n)
+unfolding largestOdd
+largestOdd-largest n some = omega arith
 
-pub terms-table : map termsFor (1 ∷ 2 ∷ 3 ∷ 4 ∷ 5 ∷ 6 ∷ []) ≡ over 2 2 ∷ over 2 2 ∷ over 6 8 ∷ over 6 8 ∷ over 10 14 ∷ over 10 14 ∷ []
+-- the formula's row for n agents: n, top and bottom
+abbrev row : ℕ → ℕ × ℕ × ℕ
+row n = (n, termsFor n .top, termsFor n .bottom)
+
+-- the table of "Rounds", a row for each number of agents
+pub terms-table : map row (range 1 mostAgents) ≡
+    (1, 2, 2)
+    ∷ (2, 2, 2)
+    ∷ (3, 6, 8)
+    ∷ (4, 6, 8)
+    ∷ (5, 10, 14)
+    ∷ (6, 10, 14)
+    ∷ []
 unfolding termsFor largestOdd
 terms-table = refl
 

@@ -1,6 +1,6 @@
 -- The terms of document 01 for N agents, top and bottom, and all arithmetic that is not linear. Assumes nothing.
 use mathlib.Core.Path.{_≡_}
-use Prim.Native.Nat.{ℕ, suc, _+_, _*_, _-_, _/_, _%_, _≤_, _<_}
+use Prim.Native.Nat.{ℕ, suc, _+_, _*_, _-_, _/_, _≤_, _<_}
 use native.Mathlib.Nat.{mul-add, add-mul, suc-mul, mul-assoc, mul-comm, mul-left-comm}
 use native.Mathlib.Nat.{mul-pos, mul-le-mul, mul-le-mul-left, mul-le-mul-right, le-trans, lt-of-le-of-lt, le-of-mul-le-mul-left}
 use native.Mathlib.Omega.{arith}
@@ -10,11 +10,6 @@ use Rattle.margins.proofs.TermsFor.{top-le-bottom}
 
 -- products multiplied out and sorted: what is left is linear in them
 ruleset expand = (mul-add, add-mul, suc-mul, mul-assoc, mul-comm, mul-left-comm)
-
--- K is odd, not above n, and the largest such number
-pub largestOdd-largest : (n : ℕ) → 1 ≤ n → (largestOdd n % 2 ≡ 1) × (largestOdd n ≤ n) × ((k : ℕ) → k % 2 ≡ 1 → k ≤ n → k ≤ largestOdd n)
-unfolding largestOdd
-largestOdd-largest n some = omega arith
 
 abbrev pub top : ℕ → ℕ
 top N = termsFor N .top
