@@ -17,12 +17,6 @@ pub struct Terms {
 // A margin for each agent.
 pub type Margins = [i64; Sheet::AGENTS];
 
-// The row `top` of the table of pairs of document 01, "Rounds", for one agent and more.
-const TOPS: [u64; Sheet::AGENTS] = [2, 2, 6, 6, 10, 10];
-
-// The row `bottom`.
-const BOTTOMS: [u64; Sheet::AGENTS] = [2, 2, 8, 8, 14, 14];
-
 // No sum of the marks of a set is greater.
 const GREATEST_SUM: u64 = Sheet::SET_BITS as u64 * (Sheet::GREATEST_MARK + 1);
 
@@ -30,14 +24,12 @@ const GREATEST_SUM: u64 = Sheet::SET_BITS as u64 * (Sheet::GREATEST_MARK + 1);
 pub fn terms_for(agents: usize) -> Terms
     ensures { λ r. ⌜ r ≡ termsFor (min agents mostAgents) ⌝ }
 {
-    let last = lesser(agents, Sheet::AGENTS);
-    if last == 0 {
-        return Terms { top: 2, bottom: 2 };
-    }
-    let column = last - 1;
+    let counted = lesser(agents, Sheet::AGENTS);
+    let before = counted - lesser(counted, 1);
+    let largest_odd = 2 * (before as u64 / 2) + 1;
     Terms {
-        top: TOPS[column],
-        bottom: BOTTOMS[column],
+        top: 2 * largest_odd,
+        bottom: 3 * largest_odd - 1,
     }
 }
 
