@@ -6,5 +6,6 @@ pub mod Stores
 pub mod Zeros
 pub mod Passing
 pub mod Prefixes
+pub mod Fronts
 pub mod PartRest
 pub mod Defaults

@@ -1,0 +1,82 @@
+-- The table of counts, row after row. Assumes nothing.
+use mathlib.Core.Path.{_≡_, sym, ap, ap₂, _∙_}
+use mathlib.Core.Logic.{⊎-elim}
+use mathlib.Core.List.{[], map}
+use Prim.Native.Nat.{ℕ, suc, _+_, _-_, _*_, _≤_, _<_}
+use native.Mathlib.Nat.{pow-le-pow-right, add-zero}
+use native.Mathlib.Numerals.{add-one}
+use native.Mathlib.Omega.{arith}
+use lib.ListN.{length, getD, length-map}
+use lib.Seq.{getD-append-add}
+use Rattle.lists.specs.Lists.{range, zeros, padded}
+use Rattle.lists.proofs.Cases.{lt-or-ge}
+use Rattle.lists.proofs.ranges.Ranges.{in-range, range-bounds, length-range}
+use Rattle.lists.proofs.places.Places.{nth-next, nth-padded-range}
+use Rattle.lists.proofs.places.Zeros.{getD-zeros}
+use Rattle.lists.proofs.sums.Totals.{map-cong}
+use Rattle.sheet.specs.Limits.{mostAgents, mostItems}
+use Rattle.growth.specs.Growth.{growthFrom}
+use Rattle.growth.specs.Counts.{growthCount, usedPlaces, countRow, countTable}
+use Rattle.growth.specs.internal.Rows.{oneMore, nextRow, NextFits}
+use Rattle.growth.proofs.Counted.{growthCount-below, growthCount-full, length-growthFrom, growthCount-le-pow}
+
+-- place i, where f fills the places 0 .. n
+pub getD-filled : {A : Type 0} (places : ℕ) (d e : A) (f : ℕ → A) (n i : ℕ) → i ≤ n → getD (padded places d (map (λ c. f (c - 1)) (range 1 (n + 1)))) i e ≡ f i
+getD-filled places d e f n i le =
+    sym (nth-next e (padded places d (map (λ c. f (c - 1)) (range 1 (n + 1)))) i)
+    ∙ nth-padded-range places d e (λ c. f (c - 1)) (n + 1) (in-range 1 (n + 1) (i + 1) (omega arith) (omega arith))
+    ∙ ap f (omega arith)
+
+module _ (n k : ℕ) where
+  -- what a row says for so many bundles in use
+  getD-countRow : (used : ℕ) → used ≤ n → getD (countRow n k) used 0 ≡ growthCount n used k
+  unfolding countRow
+  getD-countRow = getD-filled usedPlaces 0 0 (λ used. growthCount n used k) n
+
+  -- the next place is blank
+  getD-countRow-blank : getD (countRow n k) (n + 1) 0 ≡ 0
+  unfolding countRow
+  getD-countRow-blank =
+      let row = map (λ c. growthCount n (c - 1) k) (range 1 (n + 1)) in
+      let places : n + 1 ≡ length row + 0 = omega (arith, length-map (range 1 (n + 1)) (λ c. growthCount n (c - 1) k), length-range 1 (n + 1)) in
+      ap (λ i. getD (padded usedPlaces 0 row) i 0) places
+      ∙ getD-append-add row (zeros (usedPlaces - length row)) 0 0
+      ∙ getD-zeros (usedPlaces - length row) 0
+
+  oneMore-counts : (used : ℕ) → used ≤ n → oneMore (countRow n k) used ≡ growthCount n used (suc k)
+  oneMore-counts used le =
+      ⊎-elim
+      (λ (lt : used < n).
+      let new : getD (countRow n k) (used + 1) 0 ≡ growthCount n (suc used) k = getD-countRow (used + 1) (omega arith) ∙ ap (λ u. growthCount n u k) (add-one used) in
+      ap₂ (λ same opened. used * same + opened) (getD-countRow used le) new ∙ sym (growthCount-below n used k lt))
+      (λ (ge : n ≤ used).
+      let full : used ≡ n = omega arith in
+      let none : getD (countRow n k) (used + 1) 0 ≡ 0 = ap (λ u. getD (countRow n k) (u + 1) 0) full ∙ getD-countRow-blank in
+      ap₂ (λ same opened. used * same + opened) (getD-countRow used le) none ∙ add-zero _ ∙ sym (growthCount-full n used k ge))
+      (lt-or-ge used n)
+
+  -- the numbers of the next row have 32 bits: 6 ^ 12 has
+  pub next-fits : n ≤ mostAgents → k < mostItems → NextFits n (countRow n k)
+  next-fits few more used le =
+      let left : suc k ≤ mostItems = omega arith in
+      omega (
+        arith,
+        oneMore-counts used le,
+        growthCount-le-pow n mostAgents used (suc k) few (omega arith),
+        pow-le-pow-right {n = mostAgents} (omega arith) left,
+      )
+
+  pub nextRow-countRow : nextRow n (countRow n k) ≡ countRow n (suc k)
+  unfolding nextRow countRow
+  nextRow-countRow =
+      ap (padded usedPlaces 0)
+      (map-cong (λ c. oneMore (countRow n k) (c - 1)) (λ c. growthCount n (c - 1) (suc k)) (range 1 (n + 1))
+      (λ c m. let b = range-bounds 1 (n + 1) m in oneMore-counts (c - 1) (omega arith)))
+
+-- what the table says for so many items more and so many bundles in use
+pub countTable-counts : (n m left used : ℕ) → left ≤ m → used ≤ n → getD (getD (countTable n m) left []) used 0 ≡ length (growthFrom n used left)
+unfolding countTable
+countTable-counts n m left used few le =
+    ap (λ row. getD row used 0) (getD-filled (mostItems + 1) (zeros usedPlaces) [] (countRow n) m left few)
+    ∙ getD-countRow n left used le
+    ∙ sym (length-growthFrom n used left le)

@@ -1,0 +1,119 @@
+-- `growth::counts_for` meets its contract. The loop's invariant: the rows up to `left` are filled. Assumes nothing.
+use mathlib.Core.Path.{_≡_, sym, ap, ap₂, subst, _∙_}
+use mathlib.Core.List.{List, [], map}
+use Prim.Native.Nat.{ℕ, _+_, _-_, _≤_, min}
+use native.Mathlib.Numerals.{add-one}
+use native.Mathlib.Omega.{arith}
+use lib.ListN.{getD, set}
+use borrow.Author.Needs.{needs}
+use Rattle.lists.specs.Lists.{range, zeros, padded}
+use Rattle.lists.proofs.places.Padding.{padded-range}
+use Rattle.sheet.specs.Limits.{mostAgents, mostItems}
+use Rattle.growth.specs.Counts.{usedPlaces, countRow, countTable}
+use Rattle.growth.specs.internal.Rows.{nextRow, NextFits}
+use Rattle.growth.proofs.Table.{getD-filled, next-fits, nextRow-countRow}
+use Rattle.growth.proofs.counts_for.Statement.{statement}
+use Rattle.growth.proofs.counts_for.Tie as tie
+
+-- the table with the first rows filled
+abbrev filledTo : ℕ → ℕ → List (List ℕ)
+filledTo n rows = padded (mostItems + 1) (zeros usedPlaces) (map (λ c. countRow n (c - 1)) (range 1 rows))
+
+-- one row more
+filledTo-next : (n rows : ℕ) → rows ≤ mostItems → set (filledTo n rows) rows (countRow n rows) ≡ filledTo n (rows + 1)
+filledTo-next n rows few = padded-range (mostItems + 1) (zeros usedPlaces) (λ c. countRow n (c - 1)) rows (countRow n rows) (omega arith) (ap (countRow n) (omega arith))
+
+abbrev Inv-loop : tie.InvT-loop
+Inv-loop items bundles last most counts₀ left₀ counts left = (left ≤ last) × (counts ≡ filledTo most (left + 1))
+
+abbrev μ-loop : tie.MeasureT-loop
+μ-loop items bundles last most counts₀ left₀ counts left = last - left
+
+lesser-requires : tie.Need-lesser-requires Inv-loop μ-loop
+lesser-requires c κs = search needs
+
+lesser-requires-2 : tie.Need-lesser-requires-2 Inv-loop μ-loop
+lesser-requires-2 c κs = search needs
+
+first-row-requires : tie.Need-first-row-requires Inv-loop μ-loop
+first-row-requires c κs = omega (arith, c .lesser2 .ensures)
+
+array-set-from-counts : tie.Need-array-set-from-counts Inv-loop μ-loop
+array-set-from-counts c = omega arith
+
+loop-holds : tie.Need-loop-holds Inv-loop μ-loop
+loop-holds c =
+    let n = c .before .lesser2 .result in
+    (omega arith, ap (λ row. set (filledTo n 0) 0 row) (c .first-row .ensures) ∙ filledTo-next n 0 (omega arith))
+
+-- the row that the loop goes on from
+row-left : (l : tie.At-loop Inv-loop μ-loop) → getD (l .loop .counts) (l .loop .left) [] ≡ countRow (l .before .before .lesser2 .result) (l .loop .left)
+row-left l =
+    ap (λ rows. getD rows (l .loop .left) []) (l .loop .inv .1)
+    ∙ getD-filled (mostItems + 1) (zeros usedPlaces) [] (countRow (l .before .before .lesser2 .result)) (l .loop .left) (l .loop .left) (omega arith)
+
+mul-row : tie.Need-mul-row Inv-loop μ-loop
+mul-row c = omega arith
+
+array-copy-out-row : tie.Need-array-copy-out-row Inv-loop μ-loop
+array-copy-out-row c = omega arith
+
+next-row-requires : tie.Need-next-row-requires Inv-loop μ-loop
+next-row-requires c κs =
+    let l = c .before .before in
+    let few : l .before .before .lesser2 .result ≤ mostAgents = omega (arith, l .before .before .lesser2 .ensures) in
+    (few, subst (NextFits (l .before .before .lesser2 .result)) (sym (row-left l)) (next-fits (l .before .before .lesser2 .result) (l .loop .left) few (omega (arith, l .before .before .before .lesser .ensures))))
+
+add-counts : tie.Need-add-counts Inv-loop μ-loop
+add-counts c = omega arith
+
+mul-counts : tie.Need-mul-counts Inv-loop μ-loop
+mul-counts c = omega arith
+
+array-set-from-counts-2 : tie.Need-array-set-from-counts-2 Inv-loop μ-loop
+array-set-from-counts-2 c = omega arith
+
+add-left : tie.Need-add-left Inv-loop μ-loop
+add-left c = omega arith
+
+loop-less : tie.Need-loop-less Inv-loop μ-loop
+loop-less c = omega arith
+
+loop-again : tie.Need-loop-again Inv-loop μ-loop
+loop-again c =
+    let l = c .before .before .before in
+    let n = l .before .before .lesser2 .result in
+    let row : c .next-row .result ≡ countRow n (l .loop .left + 1) =
+    c .next-row .ensures ∙ ap (nextRow n) (row-left l) ∙ nextRow-countRow n (l .loop .left) ∙ ap (countRow n) (sym (add-one (l .loop .left))) in
+    (omega arith, ap₂ (λ rows row. set rows (l .loop .left + 1) row) (l .loop .inv .1) row ∙ filledTo-next n (l .loop .left + 1) (omega (arith, l .before .before .before .lesser .ensures)))
+
+returns : tie.Need-returns Inv-loop μ-loop
+unfolding countTable
+returns c =
+    let l = c .before in
+    let all : l .loop .left ≡ l .before .before .before .lesser .result = omega arith in
+    l .loop .inv .1
+    ∙ ap (λ rows. filledTo (l .before .before .lesser2 .result) (rows + 1)) (all ∙ l .before .before .before .lesser .ensures)
+    ∙ ap (λ n. filledTo n (min (l .before .before .before .before .args .items) mostItems + 1)) (l .before .before .lesser2 .ensures)
+
+pub counts-for-spec : {M : Type 1} → statement M
+counts-for-spec =
+    tie.close
+    (tie.spec
+    Inv-loop
+    μ-loop
+    lesser-requires
+    lesser-requires-2
+    first-row-requires
+    array-set-from-counts
+    loop-holds
+    mul-row
+    array-copy-out-row
+    next-row-requires
+    add-counts
+    mul-counts
+    array-set-from-counts-2
+    add-left
+    loop-less
+    loop-again
+    returns)
