@@ -4,7 +4,7 @@ use mathlib.Core.Path.{_≡_}
 use mathlib.Core.Bool.{Bool, true, false, cond}
 use mathlib.Core.Logic.{_↔_}
 use mathlib.Core.List.{List, [], map}
-use Prim.Native.Nat.{ℕ, _*_, _-_, _≤_}
+use Prim.Native.Nat.{ℕ, _*_, _-_, _≤_, _<_}
 use lib.Dec.{leb}
 use lib.ListN.{length, take}
 use Rattle.lists.specs.Lists.{range, zeros, filter, nth}
@@ -14,6 +14,7 @@ use Rattle.margins.specs.Terms.{largestOdd}
 use Rattle.sheet.specs.Valuations.{value}
 use Rattle.sheet.specs.Tables.{valuation}
 use Rattle.sheet.specs.Allocations.{Allocates}
+use Rattle.growth.specs.Growth.{growths}
 use Rattle.shares.specs.Shares.{shareOf}
 use Rattle.division.specs.declared.Answer.{Answer}
 use Rattle.division.specs.declared.Answer.the-variants.{Refused, Divided}
@@ -44,13 +45,15 @@ module _ (n m : ℕ) (table : List (List ℕ)) where
   abbrev pub satisfiedAgents : List (List ℕ) → List ℕ
   satisfiedAgents bundles = filter (λ agent. keepsPromise agent (nth [] bundles agent)) (range 1 (length bundles))
 
--- what is promised of the answer r to a table of n agents and m items
-pub record Promised (n m : ℕ) (table : List (List ℕ)) (r : Outcome) : Type 0 where
+-- what is promised of the answer r to a table of n agents and m items, divided with an allowance
+pub record Promised (n m : ℕ) (table : List (List ℕ)) (allowance : ℕ) (r : Outcome) : Type 0 where
   -- the two lists of demand 3 are equal exactly where the answer is a division
   pub satisfied-iff-division : 1 ≤ n → (allAgents n ≡ satisfiedAgents n m table (bundlesIn n r)) ↔ (isDivision r ≡ true)
   -- without a division no agent holds an item
   pub refusal-holds-nothing : isDivision r ≡ false → r .bundles ≡ zeros mostAgents
-  -- every table within the limits is divided
-  pub within-limits-divided : 1 ≤ n → n ≤ mostAgents → 1 ≤ m → m ≤ mostItems → isDivision r ≡ true
+  -- 14 "by the division when the growth layouts of all pieces into N piles outnumber A" (document 02, order 7)
+  pub beyond-allowance-refused : 1 ≤ n → n ≤ mostAgents → 1 ≤ m → m ≤ mostItems → allowance < growths n m → r .answer ≡ Refused 14
+  -- "all other tables within the limits are divided" (document 02, order 7)
+  pub within-limits-divided : 1 ≤ n → n ≤ mostAgents → 1 ≤ m → m ≤ mostItems → growths n m ≤ allowance → isDivision r ≡ true
   -- in every division each item is in exactly one bundle, and no bundle has any other item
   pub division-allocates : isDivision r ≡ true → Allocates n m (bundlesIn n r)

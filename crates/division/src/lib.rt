@@ -12,7 +12,7 @@ use grading::worths_of;
 use margins::margins_of;
 use margins::terms_for;
 use shares::Cut;
-use shares::share_each;
+use shares::share_each_within;
 use sheet::Sets;
 use sheet::Sheet;
 use sheet::Table;
@@ -94,12 +94,13 @@ fn divide_shared(table: Table, agents: usize, items: usize, own: shares::Outcome
 }
 
 // The division of a table of marks with these counts. Refused as its shares are: with 4 where the agents lie outside the limits, else
-// with 5 where the items do, else with 9 where a share times the agents exceeds the sum of its marks.
-pub fn divide(table: Table, agents: usize, items: usize) -> Outcome
-    ensures answered { λ r. ⌜ r ≡ outcome (answer agents items table) ⌝ }
-    ensures promised { λ r. ⌜ Promised agents items table r ⌝ }
+// with 5 where the items do, else with 9 where a share times the agents exceeds the sum of its marks, else with 14 where the growth
+// partitions of all items into as many bundles as agents outnumber the allowance.
+pub fn divide(table: Table, agents: usize, items: usize, allowance: u32) -> Outcome
+    ensures answered { λ r. ⌜ r ≡ outcome (answer agents items table allowance) ⌝ }
+    ensures promised { λ r. ⌜ Promised agents items table allowance r ⌝ }
 {
-    let own = share_each(table, agents, items);
+    let own = share_each_within(table, agents, items, allowance);
     let answer = own.answer;
     match answer {
         shares::Answer::Refused(number) => refuse(number),

@@ -7,23 +7,24 @@ use division::Answer;
 use sheet::Sheet;
 use sheet::Table;
 
-// Divides the table among `agents` agents (yards). Answers 0 and stores the grade, each agent's bundle as a set of items and the cutter of each
+// Divides the table among `agents` agents (yards) with an allowance for cutting. Answers 0 and stores the grade, each agent's bundle as a set of items and the cutter of each
 // round, 0 after the last; or answers the number of the refusal and stores nothing.
 #[no_mangle]
 pub extern "C" fn divide_table(
     table: &Table,
     agents: usize,
     items: usize,
+    allowance: u32,
     grade: &mut u8,
     bundles: &mut [u16; Sheet::AGENTS],
     cutters: &mut [u8; Sheet::AGENTS],
 ) -> u8
-    ensures answer { λ r. ⌜ r ≡ numberOf (answer agents items (now (table .entry))) ⌝ }
-    ensures grade { λ r. ⌜ now (grade .exit) ≡ after storeGrade (answer agents items (now (table .entry))) (now (grade .entry)) ⌝ }
-    ensures bundles { λ r. ⌜ now (bundles .exit) ≡ after storeBundles (answer agents items (now (table .entry))) (now (bundles .entry)) ⌝ }
-    ensures cutters { λ r. ⌜ now (cutters .exit) ≡ after storeCutters (answer agents items (now (table .entry))) (now (cutters .entry)) ⌝ }
+    ensures answer { λ r. ⌜ r ≡ numberOf (answer agents items (now (table .entry)) allowance) ⌝ }
+    ensures grade { λ r. ⌜ now (grade .exit) ≡ after storeGrade (answer agents items (now (table .entry)) allowance) (now (grade .entry)) ⌝ }
+    ensures bundles { λ r. ⌜ now (bundles .exit) ≡ after storeBundles (answer agents items (now (table .entry)) allowance) (now (bundles .entry)) ⌝ }
+    ensures cutters { λ r. ⌜ now (cutters .exit) ≡ after storeCutters (answer agents items (now (table .entry)) allowance) (now (cutters .entry)) ⌝ }
 {
-    let outcome = division::divide(*table, agents, items);
+    let outcome = division::divide(*table, agents, items, allowance);
     let answer = outcome.answer;
     match answer {
         Answer::Refused(number) => number,

@@ -36,19 +36,19 @@ module _ (n m : ℕ) (table : List (List ℕ)) where
   pub none-no-exact-division : searching n m table ≡ accepted false → (bundles : List (List ℕ)) → ExactDivision n m table bundles → ⊥
   none-no-exact-division none bundles d = true≢false (sym (exact-division-exists n m table bundles d) ∙ searching-accepted n m table false none .0)
 
-  -- the box's division of the table
-  module _ (d : Division) (divided : answer n m table ≡ accepted d) where
+  -- the box's division of the table, with any allowance
+  module _ (allowance : ℕ) (d : Division) (divided : answer n m table allowance ≡ accepted d) where
     within : CountsWithin n m
-    within = answer-accepted n m table d divided .1
+    within = answer-accepted n m table allowance d divided .1
 
     -- graded 1, 2 or 3 it is an exact division
     pub graded-exact : d .grade ≤ 3 → ExactDivision n m table (d .bundles)
     unfolding divisionOf
     graded-exact low =
         record {
-          allocates = division-allocates n m table d divided;
-          items-rise = rw (answer-accepted n m table d divided .0) (λ bundle mb. range-sublist-rising m (allocation-sublist n m (termsFor n) table bundle mb));
-          shares-reached = isExact-passes n m table (d .bundles) (division-allocates n m table d divided) ∙ division-passes n m table d divided 3 (omega arith) ∙ le-leb (d .grade) 3 low;
+          allocates = division-allocates n m table allowance d divided;
+          items-rise = rw (answer-accepted n m table allowance d divided .0) (λ bundle mb. range-sublist-rising m (allocation-sublist n m (termsFor n) table bundle mb));
+          shares-reached = isExact-passes n m table (d .bundles) (division-allocates n m table allowance d divided) ∙ division-passes n m table allowance d divided 3 (omega arith) ∙ le-leb (d .grade) 3 low;
         }
 
     -- and the search does not say none
@@ -60,7 +60,7 @@ module _ (n m : ℕ) (table : List (List ℕ)) where
     none-graded-4 none =
         ⊎-elim
         (λ lt. absurd (none-no-exact-division none (d .bundles) (graded-exact (omega arith))))
-        (λ ge. omega (arith, never-graded-5 n m table d divided))
+        (λ ge. omega (arith, never-graded-5 n m table allowance d divided))
         (lt-or-ge (d .grade) 4)
 
 -- "places beyond the yards and pieces in use count for nothing"

@@ -35,12 +35,12 @@ module _ (n m : ℕ) (table : List (List ℕ)) where
   valuesTo i = allValues m (valuation table i)
 
   -- the box's division of the table
-  module _ (d : Division) (divided : answer n m table ≡ accepted d) where
+  module _ (allowance : ℕ) (d : Division) (divided : answer n m table allowance ≡ accepted d) where
     within : CountsWithin n m
-    within = answer-accepted n m table d divided .1
+    within = answer-accepted n m table allowance d divided .1
 
     by-rounds : d ≡ divisionByRounds n m table
-    by-rounds = answer-accepted n m table d divided .0
+    by-rounds = answer-accepted n m table allowance d divided .0
 
     abbrev stated : Stated
     stated = statedBy n m table d
@@ -69,7 +69,7 @@ module _ (n m : ℕ) (table : List (List ℕ)) where
     bundles-stated : bundlesOf stated ≡ d .bundles
     bundles-stated =
         map-map (λ l. l .bundle) (statedLineBy n m table d) (range 1 n)
-        ∙ map-nth-range [] (d .bundles) n (division-allocates n m table d divided .bundle-each)
+        ∙ map-nth-range [] (d .bundles) n (division-allocates n m table allowance d divided .bundle-each)
 
     -- and in line i what it has for agent i
     line-stated : {i : ℕ} → Mem i (range 1 n) → lineOf stated i ≡ statedLineBy n m table d i
@@ -101,7 +101,7 @@ module _ (n m : ℕ) (table : List (List ℕ)) where
     pub own-division-true : AllTrue n m table (statedBy n m table d)
     own-division-true =
         record {
-          divides = rw bundles-stated (division-allocates n m table d divided);
+          divides = rw bundles-stated (division-allocates n m table allowance d divided);
           cut-divides = λ i lo hi. cut-allocates (in-range 1 n i lo (omega arith));
           worth-true = λ i lo hi. worth-stated (in-range 1 n i lo (omega arith));
           share-true = λ i lo hi. share-stated (in-range 1 n i lo (omega arith));

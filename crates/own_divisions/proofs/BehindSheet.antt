@@ -23,16 +23,16 @@ use Rattle.own_divisions.specs.StatedBy.{statedBy}
 use Rattle.own_divisions.proofs.ReadBack.{printed-reads-back}
 use Rattle.own_divisions.proofs.TextLength.{length-printedWithoutCutters}
 
--- a sheet within the limits, and its division
-module _ (c : Contents) (d : Division) (w : WithinLimits c) (divided : answer (c .agents) (c .items) (c .table) ≡ accepted d) where
+-- a sheet within the limits, and its division with any allowance
+module _ (c : Contents) (allowance : ℕ) (d : Division) (w : WithinLimits c) (divided : answer (c .agents) (c .items) (c .table) allowance ≡ accepted d) where
   marks-small : (i k : ℕ) → itemValue (valuation (c .table) i) k ≤ greatestMark
   marks-small = table-small (inUse (c .agents) (c .items) (c .table)) (c .table) (w .blank-beyond) (w .marks-allowed)
 
   pub sheet-division-read : divisionText (c .agents) (c .items) (tokens (printedWithoutCutters (c .agents) (c .items) (c .table) d))
       ≡ some (statedBy (c .agents) (c .items) (c .table) d)
-  sheet-division-read = printed-reads-back (c .agents) (c .items) (c .table) d divided marks-small
+  sheet-division-read = printed-reads-back (c .agents) (c .items) (c .table) allowance d divided marks-small
 
   pub length-sheet-and-division : length (strictText c ++ printedWithoutCutters (c .agents) (c .items) (c .table) d) ≤ longestText
   length-sheet-and-division =
       rw (length-append (strictText c) (printedWithoutCutters (c .agents) (c .items) (c .table) d))
-      (omega (arith, length-strictText w, length-printedWithoutCutters (c .agents) (c .items) (c .table) d divided marks-small))
+      (omega (arith, length-strictText w, length-printedWithoutCutters (c .agents) (c .items) (c .table) allowance d divided marks-small))

@@ -15,20 +15,22 @@ use Rattle.division_reading.specs.Grammar.{divisionText}
 use Rattle.judging.specs.Judging.{judging}
 use Rattle.judging.proofs.Theorems.{accepted-exactly-if-all-true}
 use Rattle.own_divisions.specs.StatedBy.{statedBy}
-use Rattle.own_divisions.proofs.BehindSheet.{sheet-division-read, sheet-division-read}
+use Rattle.own_divisions.proofs.BehindSheet.{sheet-division-read}
 use Rattle.own_divisions.proofs.AllTrue.{own-division-true, own-division-shape, own-division-margins}
 
 -- what a division of the box states is accepted, with its margins
-pub own-division-judged : (n m : ℕ) (table : List (List ℕ)) (d : Division) → answer n m table ≡ accepted d → judging n m table (some (statedBy n m table d)) ≡ accepted (d .margins)
-own-division-judged n m table d divided =
-    accepted-exactly-if-all-true n m table (statedBy n m table d) (own-division-shape n m table d divided) .1
-    (own-division-true n m table d divided) (answer-accepted n m table d divided .1)
-    ∙ ap accepted (own-division-margins n m table d divided)
+pub own-division-judged : (n m : ℕ) (table : List (List ℕ)) (allowance : ℕ) (d : Division) → answer n m table allowance ≡ accepted d
+    → judging n m table (some (statedBy n m table d)) ≡ accepted (d .margins)
+own-division-judged n m table allowance d divided =
+    accepted-exactly-if-all-true n m table (statedBy n m table d) (own-division-shape n m table allowance d divided) .1
+    (own-division-true n m table allowance d divided) (answer-accepted n m table allowance d divided .1)
+    ∙ ap accepted (own-division-margins n m table allowance d divided)
 
--- a sheet within the limits, and its division
-module _ (c : Contents) (d : Division) (w : WithinLimits c) (divided : answer (c .agents) (c .items) (c .table) ≡ accepted d) where
+-- a sheet within the limits, and its division with any allowance
+module _ (c : Contents) (allowance : ℕ) (d : Division) (w : WithinLimits c) (divided : answer (c .agents) (c .items) (c .table) allowance ≡ accepted d) where
   -- the text of the division is judged so, once it is read
   pub own-text-judged : judging (c .agents) (c .items) (c .table) (divisionText (c .agents) (c .items) (tokens (printedWithoutCutters (c .agents) (c .items) (c .table) d)))
       ≡ accepted (d .margins)
   own-text-judged =
-      ap (judging (c .agents) (c .items) (c .table)) (sheet-division-read c d w divided) ∙ own-division-judged (c .agents) (c .items) (c .table) d divided
+      ap (judging (c .agents) (c .items) (c .table)) (sheet-division-read c allowance d w divided)
+      ∙ own-division-judged (c .agents) (c .items) (c .table) allowance d divided

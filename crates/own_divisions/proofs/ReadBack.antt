@@ -39,10 +39,10 @@ module _ (n m : ℕ) (table : List (List ℕ)) (d : Division) (few : n ≤ mostA
       })
 
 -- the division of every table within the limits
-module _ (n m : ℕ) (table : List (List ℕ)) (d : Division) (divided : answer n m table ≡ accepted d) (small : (i k : ℕ) → itemValue (valuation table i) k ≤ greatestMark) where
+module _ (n m : ℕ) (table : List (List ℕ)) (allowance : ℕ) (d : Division) (divided : answer n m table allowance ≡ accepted d) (small : (i k : ℕ) → itemValue (valuation table i) k ≤ greatestMark) where
   pub printed-reads-back : divisionText n m (tokens (printedWithoutCutters n m table d)) ≡ some (statedBy n m table d)
   printed-reads-back =
-      let (by-rounds, w) = answer-accepted n m table d divided in
+      let (by-rounds, w, enough) = answer-accepted n m table allowance d divided in
       rw by-rounds
       (printable-reads-back n m table (divisionByRounds n m table) (w .few) (w .few-items) (divisionByRounds-printable n m table (w .some))
       (divisionByRounds-worth-small n m table (w .some) (w .few-items) small) (divisionByRounds-share-small n m table (w .some) (w .few-items) small))

@@ -18,10 +18,10 @@ length-without-cutters : (n m : ℕ) (table : List (List ℕ)) (d : Division) �
 unfolding printed printedWithoutCutters allLines
 length-without-cutters n m table d = simp length-append (omega arith)
 
--- the division of every table within the limits
-pub length-printedWithoutCutters : (n m : ℕ) (table : List (List ℕ)) (d : Division) → answer n m table ≡ accepted d → ((i k : ℕ) → itemValue (valuation table i) k ≤ greatestMark)
+-- the division of every table that is divided
+pub length-printedWithoutCutters : (n m : ℕ) (table : List (List ℕ)) (allowance : ℕ) (d : Division) → answer n m table allowance ≡ accepted d → ((i k : ℕ) → itemValue (valuation table i) k ≤ greatestMark)
     → length (printedWithoutCutters n m table d) ≤ longestPrinted
-length-printedWithoutCutters n m table d divided small =
-    let (by-rounds, w) = answer-accepted n m table d divided in
+length-printedWithoutCutters n m table allowance d divided small =
+    let (by-rounds, w, enough) = answer-accepted n m table allowance d divided in
     let whole : length (printed n m table d) ≤ longestPrinted = rw by-rounds (divisionByRounds-length n m table (w .some) (w .few-items) small (w .few)) in
     omega (arith, length-without-cutters n m table d)

@@ -3,6 +3,7 @@
 use mathlib.Core.Path.{_≡_, ap, _∙_}
 use mathlib.Core.List.{List, _++_}
 use Prim.Native.Nat.{ℕ, _≤_}
+use native.Mathlib.Omega.{arith}
 use Rattle.sheet.specs.Answers.{accepted, andThen}
 use Rattle.reading.specs.Reading.{Contents, reading}
 use Rattle.reading.proofs.Accepted.{accepted-counts}
@@ -10,8 +11,9 @@ use Rattle.strict_text.specs.StrictText.{strictText}
 use Rattle.strict_text.proofs.RoundTrip.{reading-withinLimits}
 use Rattle.strict_text.proofs.AtFront.{strictText-at-front}
 use Rattle.writing.specs.Filled.{filling}
+use Rattle.growth.proofs.Growths.{mostGrowths}
 use Rattle.rounds.specs.Division.{Division, divisionByRounds}
-use Rattle.rounds.proofs.Answers.{answer-within-limits}
+use Rattle.rounds.proofs.Answers.{answer-with-most}
 use Rattle.printing.specs.Printed.{printedWithoutCutters}
 use Rattle.sheet_to_judgement.specs.AcceptedText.{acceptedText, longestAccepted}
 use Rattle.sheet_to_judgement.specs.TextJudged.{sheetJudged, textJudged, judgementFrom}
@@ -33,9 +35,9 @@ module _ (text : List ℕ) (sheet : Contents) (read : reading text ≡ accepted 
   own-division-accepted =
       let d = divisionOfSheet sheet in
       let within = reading-withinLimits sheet text read in
-      let divided = answer-within-limits (sheet .agents) (sheet .items) (sheet .table) (accepted-counts text sheet read) in
-      ap (λ a. andThen a (λ (c, ts). sheetJudged c ts)) (strictText-at-front sheet within (printedWithoutCutters (sheet .agents) (sheet .items) (sheet .table) d) (length-sheet-and-division sheet d within divided))
-      ∙ own-text-judged sheet d within divided
+      let divided = answer-with-most (sheet .agents) (sheet .items) (sheet .table) mostGrowths (omega arith) (accepted-counts text sheet read) in
+      ap (λ a. andThen a (λ (c, ts). sheetJudged c ts)) (strictText-at-front sheet within (printedWithoutCutters (sheet .agents) (sheet .items) (sheet .table) d) (length-sheet-and-division sheet mostGrowths d within divided))
+      ∙ own-text-judged sheet mostGrowths d within divided
 
   -- "meets no refusal but 10"
   pub own-division-no-refusal-but-10 : (room : ℕ) → judgementFrom (sheetAndDivision sheet) room ≡ filling room (acceptedText (divisionOfSheet sheet .margins))

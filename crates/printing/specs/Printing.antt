@@ -7,9 +7,9 @@ use Rattle.writing.specs.Filled.{filling}
 use Rattle.rounds.specs.Division as division
 use Rattle.printing.specs.Printed.{printed}
 
--- "one that fills a lent buffer tries 10 last": the text of a table's division, printed into a buffer of so many bytes
-unfoldable pub printing : ℕ → ℕ → List (List ℕ) → ℕ → Answer (List ℕ)
-printing agents items table room = andThen (division.answer agents items table) (λ d. filling room (printed agents items table d))
+-- "one that fills a lent buffer tries 10 last": the text of a table's division with an allowance, printed into a buffer of so many bytes
+unfoldable pub printing : ℕ → ℕ → List (List ℕ) → ℕ → ℕ → Answer (List ℕ)
+printing agents items table allowance room = andThen (division.answer agents items table allowance) (λ d. filling room (printed agents items table d))
 
 -- the most bytes of the head of a table within the limits: (division (yards 6) (pieces 12) (grade 4)) and the line feed
 abbrev pub longestHead : ℕ
@@ -31,7 +31,7 @@ longestYard = 27 + 2 * sumDigits + longestPile + longestCut
 abbrev pub longestCutters : ℕ
 longestCutters = 10 + 2 * mostAgents
 
--- a buffer of so many bytes is long enough for every table within the limits (proofs/printed/Longest.antt): the head, a line for each yard,
+-- a buffer of so many bytes is long enough for the division of every table within the limits (proofs/printed/Longest.antt): the head, a line for each yard,
 -- the cutters, and (end) with the line feed
 abbrev pub longestPrinted : ℕ
 longestPrinted = longestHead + mostAgents * longestYard + longestCutters + 6

@@ -55,13 +55,19 @@ fn print_outcome(
     fill(&text[..length], buffer)
 }
 
-// Divides a table of marks with these counts and prints the division from the front of the buffer. Refused as by `divide`, else with
-// 10 where the buffer is shorter than the text; then the buffer keeps all its bytes.
-pub fn print_division(table: Table, agents: usize, items: usize, buffer: &mut [u8]) -> Answer
-    ensures answer { λ r. ⌜ r ≡ answered (printing agents items table (length (now (buffer .entry)))) ⌝ }
-    ensures buffer { λ _. ⌜ now (buffer .exit) ≡ after filled (printing agents items table (length (now (buffer .entry)))) (now (buffer .entry)) ⌝ }
+// Divides a table of marks with these counts and this allowance and prints the division from the front of the buffer. Refused as by
+// `divide`, else with 10 where the buffer is shorter than the text; then the buffer keeps all its bytes.
+pub fn print_division(
+    table: Table,
+    agents: usize,
+    items: usize,
+    allowance: u32,
+    buffer: &mut [u8],
+) -> Answer
+    ensures answer { λ r. ⌜ r ≡ answered (printing agents items table allowance (length (now (buffer .entry)))) ⌝ }
+    ensures buffer { λ _. ⌜ now (buffer .exit) ≡ after filled (printing agents items table allowance (length (now (buffer .entry)))) (now (buffer .entry)) ⌝ }
 {
-    let outcome = divide(table, agents, items);
+    let outcome = divide(table, agents, items, allowance);
     let answer = outcome.answer;
     match answer {
         division::Answer::Refused(number) => Answer::Refused(number),

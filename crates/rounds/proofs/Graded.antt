@@ -19,28 +19,28 @@ use Rattle.rounds.proofs.Allocation.{allocation-noneNegative, allocatio
 use Rattle.rounds.proofs.Answers.{answer-accepted}
 
 -- the box's division of a table: n agents (yards), m items (pieces) and any marks
-module _ (n m : ℕ) (table : List (List ℕ)) (d : Division) (divided : answer n m table ≡ accepted d) where
+module _ (n m : ℕ) (table : List (List ℕ)) (allowance : ℕ) (d : Division) (divided : answer n m table allowance ≡ accepted d) where
   within : CountsWithin n m
-  within = answer-accepted n m table d divided .1
+  within = answer-accepted n m table allowance d divided .1
 
   -- each item is in one bundle
   pub division-allocates : Allocates n m (d .bundles)
   unfolding divisionOf
-  division-allocates = rw (answer-accepted n m table d divided .0) (allocation-allocates n m (termsFor n) table (termsFor-allowed n) (within .some))
+  division-allocates = rw (answer-accepted n m table allowance d divided .0) (allocation-allocates n m (termsFor n) table (termsFor-allowed n) (within .some))
 
   -- it passes the test for g exactly where its grade is at most g
   pub division-passes : (g : ℕ) → 1 ≤ g → passes n m table (d .bundles) g ≡ leb (d .grade) g
   unfolding divisionOf
-  division-passes g some = passes-from-grade n m table (d .bundles) division-allocates g some ∙ rw (answer-accepted n m table d divided .0)
+  division-passes g some = passes-from-grade n m table (d .bundles) division-allocates g some ∙ rw (answer-accepted n m table allowance d divided .0)
 
   -- "every margin to be zero or more"
   pub no-margin-negative : noneNegative n (d .margins) ≡ true
   unfolding divisionOf
-  no-margin-negative = rw (answer-accepted n m table d divided .0) (allocation-noneNegative n m (termsFor n) table (termsFor-allowed n))
+  no-margin-negative = rw (answer-accepted n m table allowance d divided .0) (allocation-noneNegative n m (termsFor n) table (termsFor-allowed n))
 
   passes-4 : passes n m table (d .bundles) 4 ≡ true
   unfolding divisionOf
-  passes-4 = rw (answer-accepted n m table d divided .0) (allocation-noneNegative n m (termsFor n) table (termsFor-allowed n))
+  passes-4 = rw (answer-accepted n m table allowance d divided .0) (allocation-noneNegative n m (termsFor n) table (termsFor-allowed n))
 
   -- demand 3 leaves no division of the box "the rest"
   pub never-graded-5 : d .grade ≤ 4

@@ -1,10 +1,12 @@
--- The table of terms, refusals 4 and 5, and the starred sheets a to i of document 01 in one table, by computation; b and d have the grade of
--- document 02, order 2, all have the margins of order 5, and a sheet of grade 2 stands behind them. Assumes nothing.
-use mathlib.Core.Path.{_≡_, refl, ap}
+-- Refusals 4 and 5, and the starred sheets a to i of document 01 in one table, by computation; b and d have the grade of document 02, order 2,
+-- all have the margins of order 5, and a sheet of grade 2 stands behind them. Then sheets on either side of order 7's refusal 14. Assumes nothing.
+use mathlib.Core.Path.{_≡_, refl, sym, ap, subst}
 use mathlib.Core.Logic.{_⊎_, inl, inr}
 use mathlib.Core.List.{List, [], _∷_, map}
-use Prim.Native.Nat.{ℕ}
+use Prim.Native.Nat.{ℕ, _≤_, _<_}
+use native.Mathlib.Omega.{arith}
 use lib.IntN.{pos}
+use Rattle.sheet.specs.Limits.{CountsWithin}
 use Rattle.sheet.specs.Sets.{itemsOf}
 use Rattle.sheet.specs.Valuations.{valuesOf}
 use Rattle.cut.specs.Share.{maximinShare, maximinPartition}
@@ -16,14 +18,22 @@ use Rattle.sheet.specs.Tables.{profile}
 use Rattle.matching.specs.Matching.{waitingSet, matching}
 use Rattle.rounds.specs.Round.{round, rounds, held}
 use Rattle.grading.specs.Grade.{envyFree, proportional, maximinFair, grade}
-use Rattle.rounds.specs.Division.{Division, divisionOf, answer}
+use Rattle.rounds.specs.Division.{Division, divisionOf, divisionByRounds, answer}
+use Rattle.rounds.proofs.Answers.{answer-within-limits, answer-refused-14}
 use Rattle.sheet.specs.Answers.{Answer, refused, accepted}
-use Rattle.shares.specs.Shares.{sharesCovered, sharing}
+use Rattle.sheet.proofs.ThreePlayers.{players}
+use Rattle.growth.specs.Growth.{growths}
+use Rattle.growth.proofs.Growths.{twelve-into-three}
+use Rattle.shares.specs.Shares.{sharesCovered, sharing, sharingWithin}
+
+-- the allowance of the samples: "The dividing program allows 4,000,000"
+abbrev pub sampleAllowance : ℕ
+sampleAllowance = 4000000
 
 -- 0 and 7 yards give 4, 0 and 13 pieces give 5, and 4 is tried first
-pub refusals-hold : answer 0 3 [] ∷ answer 7 3 [] ∷ answer 2 0 [] ∷ answer 2 13 [] ∷ answer 7 13 [] ∷ []
+pub refusals-hold : answer 0 3 [] sampleAllowance ∷ answer 7 3 [] sampleAllowance ∷ answer 2 0 [] sampleAllowance ∷ answer 2 13 [] sampleAllowance ∷ answer 7 13 [] sampleAllowance ∷ []
     ≡ map refused (4 ∷ 4 ∷ 5 ∷ 5 ∷ 4 ∷ [])
-unfolding answer sharing
+unfolding answer sharingWithin sharing
 refusals-hold = refl
 
 -- a sheet, with its division
@@ -40,7 +50,7 @@ pub data Starred : Type 0 where
 
 -- what the definitions answer for a row
 abbrev pub worked : Starred → Answer Division ⊎ Answer Cutting
-worked (sheet s) = inl (answer (s .agents) (s .items) (s .rows))
+worked (sheet s) = inl (answer (s .agents) (s .items) (s .rows) sampleAllowance)
 worked (cut s) = inr (cutting (s .valuation) (s .set) (s .bundles))
 
 -- what the row says
@@ -48,10 +58,10 @@ abbrev pub stated : Starred → Answer Division ⊎ Answer Cutting
 stated (sheet s) = inl (accepted (s .division))
 stated (cut s) = inr (s .answered)
 
-unfoldable pub starred : List Starred
-starred =
-    -- a
-    sheet (record {
+-- sheet a
+abbrev sheetA : Sample
+sheetA =
+    record {
       agents = 2;
       items = 3;
       rows = (5 ∷ 3 ∷ 4 ∷ []) ∷ (6 ∷ 2 ∷ 2 ∷ []) ∷ [];
@@ -63,7 +73,12 @@ starred =
         cutters = 1 ∷ [];
         grade = 3;
       };
-    })
+    }
+
+unfoldable pub starred : List Starred
+starred =
+    -- a
+    sheet sheetA
     -- b
     ∷ sheet (record {
       agents = 3;
@@ -170,8 +185,24 @@ starred =
 
 -- "The starred sheets are proved as a table, by one theorem covering its rows"
 pub starred-hold : map worked starred ≡ map stated starred
-unfolding starred answer divisionOf sharing sharesCovered profile termsFor largestOdd round rounds held waitingSet matching maximinShare maximinPartition margin grade envyFree proportional maximinFair cutting valuesOf itemsOf
+unfolding starred answer divisionOf sharingWithin growths sharing sharesCovered profile termsFor largestOdd round rounds held waitingSet matching maximinShare maximinPartition margin grade envyFree proportional maximinFair cutting valuesOf itemsOf
 starred-hold = refl
+
+-- sheet a has four growth layouts: an allowance of three gives 14, one of four its division; and 4 and 5 are tried before 14
+pub allowances-hold : answer 2 3 (sheetA .rows) 3 ∷ answer 2 3 (sheetA .rows) 4 ∷ answer 7 3 [] 0 ∷ answer 2 13 [] 0 ∷ []
+    ≡ refused 14 ∷ accepted (sheetA .division) ∷ refused 4 ∷ refused 5 ∷ []
+unfolding answer divisionOf sharingWithin growths sharing sharesCovered profile termsFor largestOdd round rounds held waitingSet matching maximinShare maximinPartition margin grade envyFree proportional maximinFair cutting valuesOf itemsOf
+allowances-hold = refl
+
+players-within : CountsWithin 3 12
+players-within = record { some = omega arith; few = omega arith; some-items = omega arith; few-items = omega arith }
+
+-- "Twelve pieces have 88,574 growth layouts for three piles": one less is not enough for the three players of document 000, section 2
+pub three-players-refused : answer 3 12 players 88573 ≡ refused 14
+three-players-refused = answer-refused-14 3 12 players 88573 players-within .1 (subst (λ count. 88573 < count) (sym twelve-into-three) (omega arith))
+
+pub three-players-divided : answer 3 12 players 88574 ≡ accepted (divisionByRounds 3 12 players)
+three-players-divided = answer-within-limits 3 12 players 88574 players-within (subst (λ count. count ≤ 88574) (sym twelve-into-three) (omega arith))
 
 -- the sheets of the table
 abbrev pub sheetsOf : List Starred → List Sample
@@ -188,6 +219,6 @@ divisionsOf [] = []
 divisionsOf (inl d ∷ rows) = d ∷ divisionsOf rows
 divisionsOf (inr c ∷ rows) = divisionsOf rows
 
-pub samples-hold : map (λ s. answer (s .agents) (s .items) (s .rows)) samples ≡ map (λ s. accepted (s .division)) samples
+pub samples-hold : map (λ s. answer (s .agents) (s .items) (s .rows) sampleAllowance) samples ≡ map (λ s. accepted (s .division)) samples
 unfolding starred
 samples-hold = ap divisionsOf starred-hold

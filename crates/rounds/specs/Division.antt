@@ -11,7 +11,7 @@ use Rattle.margins.specs.Terms.{termsFor}
 use Rattle.margins.specs.Margins.{marginsOf}
 use Rattle.rounds.specs.Round.{Instance, Round, rounds, held}
 use Rattle.grading.specs.Grade.{ownValues, grade}
-use Rattle.shares.specs.Shares.{sharing}
+use Rattle.shares.specs.Shares.{sharingWithin}
 
 -- a division, agent after agent: the bundles (piles), the shares, the cuts of all items, the margins; the cutter of each round; the grade
 pub record Division : Type 0 where
@@ -59,6 +59,6 @@ module _ (n m : ℕ) (G : Instance) where
 abbrev pub divisionByRounds : ℕ → ℕ → List (List ℕ) → Division
 divisionByRounds n m table = divisionOf n m (standardInstance n m table)
 
--- "Dividing a table directly": the refusals of its shares, else its division
-unfoldable pub answer : ℕ → ℕ → List (List ℕ) → Answer Division
-answer n m table = andThen (sharing n m table) (λ shares. accepted (divisionByRounds n m table))
+-- "Dividing a table directly", with an allowance: the refusals of its shares, 14 among them, else its division
+unfoldable pub answer : ℕ → ℕ → List (List ℕ) → ℕ → Answer Division
+answer n m table allowance = andThen (sharingWithin n m table allowance) (λ shares. accepted (divisionByRounds n m table))

@@ -11,7 +11,7 @@ fn main() {
     let mut text = [0u8; ROOM];
     let got = io::read_full(STDIN_FILENO, &mut text);
     let mut buffer = [0u8; printing::LONGEST];
-    let answer = sheet_to_division::share_out(&text[..got], &mut buffer);
+    let answer = sheet_to_division::share_out_standard(&text[..got], &mut buffer);
     match answer {
         Answer::Refused(number) => refuse(number),
         Answer::Written(length) => {

@@ -136,7 +136,7 @@ fn print(text: &[u8]) {
 fn show(name: &[u8], text: &[u8]) {
     print(name);
     let mut buffer = [0u8; printing::LONGEST];
-    let answer = sheet_to_division::share_out(text, &mut buffer);
+    let answer = sheet_to_division::share_out_standard(text, &mut buffer);
     match answer {
         Answer::Refused(number) => refuse(number),
         Answer::Written(length) => print(&buffer[..length]),

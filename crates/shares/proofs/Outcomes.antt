@@ -2,19 +2,21 @@
 use mathlib.Core.Path.{_≡_, sym, ap, _∙_}
 use mathlib.Core.Logic.{⊎-elim}
 use mathlib.Core.List.{List, map, List·Memᴰ as Mem}
-use Prim.Native.Nat.{ℕ}
+use Prim.Native.Nat.{ℕ, _≤_}
 use native.Mathlib.Omega.{arith}
 use Rattle.lists.specs.Lists.{range, nth, padded}
 use Rattle.lists.proofs.places.Places.{nth-padded-range}
 use Rattle.sheet.specs.Limits.{mostAgents, CountsWithin}
 use Rattle.sheet.specs.Answers.{Answer, refused, accepted}
 use Rattle.sheet.specs.Tables.{profile}
+use Rattle.growth.specs.Growth.{growths}
 use Rattle.cut.specs.Share.{maximinShare, maximinPartition}
 use Rattle.cut.specs.Outcome.{Cutting}
-use Rattle.shares.specs.Shares.{shareOf, sharing}
+use Rattle.shares.specs.Shares.{shareOf, sharing, sharingWithin}
 use Rattle.shares.specs.Outcome.{cutOf, blankCut, outcome}
 use Rattle.shares.specs.declared.Answer.the-variants.{Refused, Shared}
 use Rattle.shares.proofs.Refusals.{sharing-within, sharing-cases}
+use Rattle.shares.proofs.Allowance.{sharingWithin-cases}
 use Rattle.shares.proofs.EachAgent.{sharedAs, cutAt, outcome-each, outcome-range}
 
 -- the code's answer is a refusal only where the answer is
@@ -22,14 +24,22 @@ pub answered-refused : (a : Answer (List Cutting)) (number : ℕ) → outcome a 
 answered-refused (refused number′) number e = let same : number′ ≡ number = cc in ap refused same
 answered-refused (accepted cuttings) number e = let z : _≡_ {A = ℕ} 0 1 = cc in absurd (omega arith)
 
+-- a refusal has no shares
+shared-not-refused : (a : Answer (List Cutting)) (number : ℕ) → outcome a .answer ≡ Shared → a ≡ refused number → ⊥
+shared-not-refused a number e is =
+    let other : Refused number ≡ Shared = sym (ap (λ a. outcome a .answer) is) ∙ e in
+    let z : _≡_ {A = ℕ} 0 1 = cc in
+    absurd (omega arith)
+
 module _ (n m : ℕ) (table : List (List ℕ)) where
   -- shares are answered only where the counts are within the limits
   pub answered-shared : outcome (sharing n m table) .answer ≡ Shared → CountsWithin n m
-  answered-shared e =
-      ⊎-elim
-      (λ w. w)
-      (λ (r : (number : ℕ) × (sharing n m table ≡ refused number)). let other : Refused (r .0) ≡ Shared = sym (ap (λ a. outcome a .answer) (r .1)) ∙ e in let z : _≡_ {A = ℕ} 0 1 = cc in absurd (omega arith))
-      (sharing-cases n m table)
+  answered-shared e = ⊎-elim (λ w. w) (λ r. absurd (shared-not-refused (sharing n m table) (r .0) e (r .1))) (sharing-cases n m table)
+
+  -- and, with an allowance, only where it is enough
+  pub answered-shared-within : (allowance : ℕ) → outcome (sharingWithin n m table allowance) .answer ≡ Shared → CountsWithin n m × (growths n m ≤ allowance)
+  answered-shared-within allowance e =
+      ⊎-elim (λ w. w) (λ r. absurd (shared-not-refused (sharingWithin n m table allowance) (r .0) e (r .1))) (sharingWithin-cases n m table allowance)
 
   module _ (counts : CountsWithin n m) where
     -- and there they are

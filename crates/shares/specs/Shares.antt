@@ -6,8 +6,9 @@ use lib.Dec.{leb}
 use Rattle.lists.specs.Lists.{all}
 use Rattle.lists.specs.Sums.{total}
 use Rattle.sheet.specs.Limits.{mostAgents, mostItems, within}
-use Rattle.sheet.specs.Answers.{Answer, accepted, require}
+use Rattle.sheet.specs.Answers.{Answer, accepted, require, andThen}
 use Rattle.sheet.specs.Tables.{valuation, allValues, profile}
+use Rattle.growth.specs.Growth.{growths}
 use Rattle.cut.specs.Share.{maximinShare}
 use Rattle.cut.specs.Outcome.{Cutting, cuttingOf}
 
@@ -30,3 +31,7 @@ sharing n m table =
     (require 5 (within mostItems m)
     (require 9 (sharesCovered n (profile n m table))
     (accepted (map (cuttingOf n) (profile n m table)))))
+
+-- "14 after 9 and before 10 .. by the division when the growth layouts of all pieces into N piles outnumber A" (document 02, order 7)
+unfoldable pub sharingWithin : ℕ → ℕ → List (List ℕ) → ℕ → Answer (List Cutting)
+sharingWithin n m table allowance = andThen (sharing n m table) (λ cuttings. require 14 (leb (growths n m) allowance) (accepted cuttings))

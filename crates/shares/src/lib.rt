@@ -2,12 +2,12 @@
 ghost use mathlib.Core.Path.{_≡_};
 ghost use mathlib.Core.List.{map};
 ghost use Prim.Native.Nat.{_≤_};
-ghost use Rattle.sheet.specs.Limits.{greatestSum, InUse};
+ghost use Rattle.sheet.specs.Limits.{greatestSum, CountsWithin, InUse};
 ghost use Rattle.sheet.specs.Answers.{refused, accepted};
 ghost use Rattle.sheet.specs.Tables.{allValues, profile};
 ghost use Rattle.sheet.specs.Amounts.{SmallAmounts};
 ghost use Rattle.cut.specs.Outcome.{cuttingOf};
-ghost use Rattle.shares.specs.Shares.{sharesCovered, sharing};
+ghost use Rattle.shares.specs.Shares.{sharesCovered, sharing, sharingWithin};
 ghost use Rattle.shares.specs.Outcome.{outcome};
 ghost use Rattle.shares.specs.internal.OwnCuts.{ownCut, SharesOf};
 use cut::Partition;
@@ -117,10 +117,24 @@ fn refuse(number: u8) -> Outcome
     }
 }
 
-// The maximin share and the cut of each agent. Refused with 4 or 5 where the agents or the items lie outside the limits, and with 9
-// where the makers' check fails.
-pub fn share_each(table: Table, agents: usize, items: usize) -> Outcome
+// The share and the cut of each agent, where the counts are within the limits. Refused with 9 where the makers' check fails.
+fn checked_cuts(table: Table, agents: usize, items: usize) -> Outcome
+    requires { ⌜ CountsWithin agents items ⌝ }
     ensures { λ r. ⌜ (r ≡ outcome (sharing agents items table)) × SmallAmounts (r .shares) ⌝ }
+{
+    let own = own_cuts(table, agents, items);
+    let shares = own.shares;
+    if !shares_covered(table, agents, items, shares) {
+        return refuse(9);
+    }
+    own
+}
+
+// The maximin share and the cut of each agent. Refused with 4 or 5 where the agents or the items lie outside the limits, with 9 where the
+// makers' check fails, and with 14 where the growth partitions of all items into as many bundles as agents outnumber the allowance. The
+// count for 14 is tried before anything is cut: within the limits 9 is never answered.
+pub fn share_each_within(table: Table, agents: usize, items: usize, allowance: u32) -> Outcome
+    ensures { λ r. ⌜ (r ≡ outcome (sharingWithin agents items table allowance)) × SmallAmounts (r .shares) ⌝ }
 {
     if !is_within(agents, Sheet::AGENTS) {
         return refuse(4);
@@ -128,10 +142,16 @@ pub fn share_each(table: Table, agents: usize, items: usize) -> Outcome
     if !is_within(items, Sheet::ITEMS) {
         return refuse(5);
     }
-    let own = own_cuts(table, agents, items);
-    let shares = own.shares;
-    if !shares_covered(table, agents, items, shares) {
-        return refuse(9);
+    if allowance < growth::count(items, agents) {
+        return refuse(14);
     }
-    own
+    checked_cuts(table, agents, items)
+}
+
+// The maximin share and the cut of each agent, with an allowance that is enough for every table. Refused with 4 or 5 where the agents or
+// the items lie outside the limits, and with 9 where the makers' check fails.
+pub fn share_each(table: Table, agents: usize, items: usize) -> Outcome
+    ensures { λ r. ⌜ (r ≡ outcome (sharing agents items table)) × SmallAmounts (r .shares) ⌝ }
+{
+    share_each_within(table, agents, items, growth::MOST)
 }

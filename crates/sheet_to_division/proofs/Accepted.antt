@@ -1,24 +1,39 @@
--- Every accepted text is printed into a buffer that is long enough for every division. Assumes nothing.
+-- Every accepted text is divided, with an allowance that is enough, and printed into a buffer that is long enough. Assumes nothing.
 use mathlib.Core.Path.{_≡_, ap, _∙_}
 use mathlib.Core.List.{List}
 use Prim.Native.Nat.{ℕ, _≤_}
+use native.Mathlib.Omega.{arith}
 use Rattle.sheet.specs.Answers.{accepted, andThen}
 use Rattle.reading.specs.Reading.{Contents, reading}
 use Rattle.reading.proofs.Accepted.{accepted-text, accepted-counts}
 use Rattle.reading.proofs.SmallMarks.{table-small}
+use Rattle.growth.specs.Growth.{growths}
+use Rattle.growth.proofs.Growths.{mostGrowths, growths-le-most}
 use Rattle.rounds.specs.Division.{divisionByRounds}
 use Rattle.printing.specs.Printed.{printed}
 use Rattle.printing.specs.Printing.{longestPrinted, printing}
 use Rattle.printing.proofs.printed.Longest.{printing-within-limits}
-use Rattle.sheet_to_division.specs.ShareOut.{shareOut}
+use Rattle.sheet_to_division.specs.ShareOut.{shareOut, standardAllowance}
 
--- every accepted text gets its division: it is never refused with a buffer of `longestPrinted` bytes
-pub accepted-printed : (s : List ℕ) (room : ℕ) (sheet : Contents) → reading s ≡ accepted sheet → longestPrinted ≤ room
-    → shareOut s room ≡ accepted (printed (sheet .agents) (sheet .items) (sheet .table) (divisionByRounds (sheet .agents) (sheet .items) (sheet .table)))
+-- the text of the division of a sheet
+abbrev pub printedDivision : Contents → List ℕ
+printedDivision sheet = printed (sheet .agents) (sheet .items) (sheet .table) (divisionByRounds (sheet .agents) (sheet .items) (sheet .table))
+
+-- an accepted text whose growth partitions do not outnumber the allowance gets its division, with a buffer of `longestPrinted` bytes
+pub accepted-printed : (s : List ℕ) (allowance room : ℕ) (sheet : Contents) → reading s ≡ accepted sheet → growths (sheet .agents) (sheet .items) ≤ allowance
+    → longestPrinted ≤ room → shareOut s allowance room ≡ accepted (printedDivision sheet)
 unfolding shareOut
-accepted-printed s room sheet read enough =
+accepted-printed s allowance room sheet read allowed enough =
     let told = accepted-text s sheet read in
-    ap (λ a. andThen a (λ c. printing (c .agents) (c .items) (c .table) room)) read
-    ∙ printing-within-limits (sheet .agents) (sheet .items) (sheet .table) room
+    ap (λ a. andThen a (λ c. printing (c .agents) (c .items) (c .table) allowance room)) read
+    ∙ printing-within-limits (sheet .agents) (sheet .items) (sheet .table) allowance room
     (accepted-counts s sheet read)
-    (table-small (told .rows) (sheet .table) (told .table-is) (told .marks-allowed)) enough
+    (table-small (told .rows) (sheet .table) (told .table-is) (told .marks-allowed)) allowed enough
+
+-- "The dividing program allows 4,000,000, so no sheet is lost" (document 02, order 7): every accepted text gets its division
+pub no-sheet-lost : (s : List ℕ) (room : ℕ) (sheet : Contents) → reading s ≡ accepted sheet → longestPrinted ≤ room
+    → shareOut s standardAllowance room ≡ accepted (printedDivision sheet)
+no-sheet-lost s room sheet read =
+    let w = accepted-counts s sheet read in
+    let most : mostGrowths ≤ standardAllowance = omega arith in
+    accepted-printed s standardAllowance room sheet read (omega (arith, most, growths-le-most (sheet .agents) (sheet .items) (w .some) (w .few) (w .few-items)))

@@ -5,6 +5,11 @@ use Rattle.sheet.specs.Answers.{Answer, andThen}
 use Rattle.reading.specs.Reading.{reading}
 use Rattle.printing.specs.Printing.{printing}
 
--- "An entry that reads a sheet tries 1 to 9 first, and one that fills a lent buffer tries 10 last": a text, and the length of the buffer
-unfoldable pub shareOut : List ℕ → ℕ → Answer (List ℕ)
-shareOut text room = andThen (reading text) (λ sheet. printing (sheet .agents) (sheet .items) (sheet .table) room)
+-- "An entry that reads a sheet tries 1 to 9 first, and one that fills a lent buffer tries 10 last", and 14 "after 9 and before 10" (document
+-- 02, order 7): a text, an allowance, and the length of the buffer
+unfoldable pub shareOut : List ℕ → ℕ → ℕ → Answer (List ℕ)
+shareOut text allowance room = andThen (reading text) (λ sheet. printing (sheet .agents) (sheet .items) (sheet .table) allowance room)
+
+-- "The dividing program allows 4,000,000" (document 02, order 7)
+abbrev pub standardAllowance : ℕ
+standardAllowance = 4000000

@@ -4,14 +4,17 @@ ghost use lib.ListN.{length};
 ghost use Rattle.sheet.specs.Answers.{after};
 ghost use Rattle.writing.specs.Answered.{answered};
 ghost use Rattle.writing.specs.Filled.{filled};
-ghost use Rattle.sheet_to_division.specs.ShareOut.{shareOut};
+ghost use Rattle.sheet_to_division.specs.ShareOut.{shareOut, standardAllowance};
 use writing::Answer;
+
+// The dividing program allows 4,000,000.
+pub const ALLOWANCE: u32 = 4000000;
 
 // Prints the division of the sheet that `text` holds into the lent buffer and answers the length printed, or answers the number of
 // the first reason to turn the sheet down and leaves the buffer as it is.
-pub fn share_out(text: &[u8], buffer: &mut [u8]) -> Answer
-    ensures answer { λ r. ⌜ r ≡ answered (shareOut (now (text .entry)) (length (now (buffer .entry)))) ⌝ }
-    ensures buffer { λ _. ⌜ now (buffer .exit) ≡ after filled (shareOut (now (text .entry)) (length (now (buffer .entry)))) (now (buffer .entry)) ⌝ }
+pub fn share_out(text: &[u8], allowance: u32, buffer: &mut [u8]) -> Answer
+    ensures answer { λ r. ⌜ r ≡ answered (shareOut (now (text .entry)) allowance (length (now (buffer .entry)))) ⌝ }
+    ensures buffer { λ _. ⌜ now (buffer .exit) ≡ after filled (shareOut (now (text .entry)) allowance (length (now (buffer .entry)))) (now (buffer .entry)) ⌝ }
 {
     let found = reading::read(text);
     let answer = found.answer;
@@ -20,7 +23,15 @@ pub fn share_out(text: &[u8], buffer: &mut [u8]) -> Answer
         reading::Answer::Accepted(sheet) => {
             let rows = found.rows;
             let table = reading::table(rows);
-            printing::print_division(table, sheet.agents, sheet.items, buffer)
+            printing::print_division(table, sheet.agents, sheet.items, allowance, buffer)
         }
     }
+}
+
+// The same with the allowance of the dividing program, which is enough for every sheet.
+pub fn share_out_standard(text: &[u8], buffer: &mut [u8]) -> Answer
+    ensures answer { λ r. ⌜ r ≡ answered (shareOut (now (text .entry)) standardAllowance (length (now (buffer .entry)))) ⌝ }
+    ensures buffer { λ _. ⌜ now (buffer .exit) ≡ after filled (shareOut (now (text .entry)) standardAllowance (length (now (buffer .entry)))) (now (buffer .entry)) ⌝ }
+{
+    share_out(text, ALLOWANCE, buffer)
 }

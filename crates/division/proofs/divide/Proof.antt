@@ -2,12 +2,15 @@
 -- Assumes nothing.
 use mathlib.Core.Path.{_≡_, sym, ap, _∙_}
 use mathlib.Core.List.{List}
-use Prim.Native.Nat.{ℕ}
+use Prim.Native.Nat.{ℕ, _≤_}
 use borrow.Author.Needs.{needs}
 use Rattle.sheet.specs.Limits.{CountsWithin}
 use Rattle.sheet.specs.Answers.{Answer}
-use Rattle.shares.specs.Shares.{sharing}
-use Rattle.shares.proofs.Outcomes.{answered-refused, answered-shared}
+use Rattle.growth.specs.Growth.{growths}
+use Rattle.shares.specs.Shares.{sharingWithin}
+use Rattle.shares.specs.Outcome as shares
+use Rattle.shares.proofs.Allowance.{sharingWithin-enough}
+use Rattle.shares.proofs.Outcomes.{answered-refused, answered-shared-within}
 use Rattle.rounds.specs.Division.{Division, answer}
 use Rattle.rounds.proofs.Answers.{answer-refused, answer-within-limits}
 use Rattle.division.specs.Outcome.{outcome}
@@ -18,13 +21,14 @@ use Rattle.division.proofs.divide.Statement.{statement}
 use Rattle.division.proofs.divide.Tie as tie
 
 -- what equals the answer of the definition keeps what is promised
-answered : (n m : ℕ) (table : List (List ℕ)) (a : Answer Division) (r : Outcome) → r ≡ outcome a → answer n m table ≡ a → (r ≡ outcome (answer n m table)) × Promised n m table r
-answered n m table a r told is =
-    let e : r ≡ outcome (answer n m table) = told ∙ ap outcome (sym is) in
-    (e, rw e (promised n m table))
+answered : (n m : ℕ) (table : List (List ℕ)) (allowance : ℕ) (a : Answer Division) (r : Outcome) → r ≡ outcome a → answer n m table allowance ≡ a
+    → (r ≡ outcome (answer n m table allowance)) × Promised n m table allowance r
+answered n m table allowance a r told is =
+    let e : r ≡ outcome (answer n m table allowance) = told ∙ ap outcome (sym is) in
+    (e, rw e (promised n m table allowance))
 
-share-each-requires : tie.Need-share-each-requires
-share-each-requires c κs = search needs
+share-each-within-requires : tie.Need-share-each-within-requires
+share-each-within-requires c κs = search needs
 
 enum-known-answer : tie.Need-enum-known-answer
 enum-known-answer c = search needs
@@ -35,35 +39,42 @@ refuse-requires c κs = search needs
 enum-told : tie.Need-enum-told
 enum-told c = search needs
 
--- shares are answered only where the counts are within the limits
-counts-within : (c : tie.After-enum-told) → let a = c .before .before .before .args in CountsWithin (a .agents) (a .items)
-counts-within c =
+-- shares are answered only where the counts are within the limits and the allowance is enough
+shared-within : (c : tie.After-enum-told) → let a = c .before .before .before .args in CountsWithin (a .agents) (a .items) × (growths (a .agents) (a .items) ≤ a .allowance)
+shared-within c =
     let a = c .before .before .before .args in
-    answered-shared (a .agents) (a .items) (a .table) (sym (ap (λ o. o .answer) (c .before .before .share-each .ensures .0)) ∙ c .enum-told .given .1)
+    answered-shared-within (a .agents) (a .items) (a .table) (a .allowance) (sym (ap (λ o. o .answer) (c .before .before .share-each-within .ensures .0)) ∙ c .enum-told .given .1)
 
 divide-shared-requires : tie.Need-divide-shared-requires
 divide-shared-requires c κs =
-    let own = c .before .before .share-each in
-    record { counts = counts-within c; own-shares = own .ensures .0; small-shares = own .ensures .1 }
+    let a = c .before .before .before .args in
+    let own = c .before .before .share-each-within in
+    let (counts, enough) = shared-within c in
+    record {
+      counts = counts;
+      own-shares = own .ensures .0 ∙ ap shares.outcome (sharingWithin-enough (a .agents) (a .items) (a .table) (a .allowance) enough);
+      small-shares = own .ensures .1;
+    }
 
 returns : tie.Need-returns
 returns c =
     let at-own = c .before .before .before .before in
     let a = at-own .before .args in
     let number = c .before .before .answer .given .0 .0 in
-    let refused-so = answered-refused (sharing (a .agents) (a .items) (a .table)) number (sym (ap (λ o. o .answer) (at-own .share-each .ensures .0)) ∙ c .before .before .answer .given .1) in
-    answered (a .agents) (a .items) (a .table) _ _ (c .refuse .ensures) (answer-refused (a .agents) (a .items) (a .table) number refused-so)
+    let refused-so = answered-refused (sharingWithin (a .agents) (a .items) (a .table) (a .allowance)) number (sym (ap (λ o. o .answer) (at-own .share-each-within .ensures .0)) ∙ c .before .before .answer .given .1) in
+    answered (a .agents) (a .items) (a .table) (a .allowance) _ _ (c .refuse .ensures) (answer-refused (a .agents) (a .items) (a .table) (a .allowance) number refused-so)
 
 returns-2 : tie.Need-returns-2
 returns-2 c =
     let a = c .before .before .before .before .args in
-    answered (a .agents) (a .items) (a .table) _ _ (c .divide-shared .ensures) (answer-within-limits (a .agents) (a .items) (a .table) (counts-within (c .before)))
+    let (counts, enough) = shared-within (c .before) in
+    answered (a .agents) (a .items) (a .table) (a .allowance) _ _ (c .divide-shared .ensures) (answer-within-limits (a .agents) (a .items) (a .table) (a .allowance) counts enough)
 
 pub divide-spec : {M : Type 1} → statement M
 divide-spec =
     tie.close
     (tie.spec
-    share-each-requires
+    share-each-within-requires
     enum-known-answer
     refuse-requires
     enum-told

@@ -19,7 +19,7 @@ returns : tie.Need-returns
 returns c =
     let s = c .before .before .before in
     let a = s .before .before .args in
-    let told = lent-refused (a .grade .now) (a .bundles .now) (a .cutters .now) (answer (a .agents) (a .items) (a .table .now)) (c .before .answer .given .0 .0)
+    let told = lent-refused (a .grade .now) (a .bundles .now) (a .cutters .now) (answer (a .agents) (a .items) (a .table .now) (a .allowance)) (c .before .answer .given .0 .0)
     (sym (ap (λ o. o .answer) (s .divide .ensures .0)) ∙ c .before .answer .given .1) in
     (told .0, (told .1, (told .2, told .3)))
 
@@ -28,7 +28,7 @@ returns-2 c =
     let s = c .before .before .before .before .before in
     let a = s .before .before .args in
     let at-answer = c .before .before .before in
-    let told = lent-divided (a .grade .now) (a .bundles .now) (a .cutters .now) (answer (a .agents) (a .items) (a .table .now)) (at-answer .answer2 .given .0 .0)
+    let told = lent-divided (a .grade .now) (a .bundles .now) (a .cutters .now) (answer (a .agents) (a .items) (a .table .now) (a .allowance)) (at-answer .answer2 .given .0 .0)
     (sym (ap (λ o. o .answer) (s .divide .ensures .0)) ∙ at-answer .answer2 .given .1) in
     (told .0, (told .1, (ap (λ o. o .bundles) (s .divide .ensures .0) ∙ told .2, ap (λ o. o .cutters) (s .divide .ensures .0) ∙ told .3)))
 

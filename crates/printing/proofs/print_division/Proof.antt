@@ -10,10 +10,10 @@ use Rattle.printing.proofs.print_division.Statement.{statement}
 use Rattle.printing.proofs.print_division.Tie as tie
 
 -- the table is accepted, with the grade that the match binds
-accepted : (c : tie.After-answer2) → let a = c .before .before .before .before .args in Accepted (a .agents) (a .items) (a .table) (c .answer2 .given .0 .0)
+accepted : (c : tie.After-answer2) → let a = c .before .before .before .before .args in Accepted (a .agents) (a .items) (a .table) (a .allowance) (c .answer2 .given .0 .0)
 accepted c =
     let a = c .before .before .before .before .args in
-    divided-accepted (a .agents) (a .items) (a .table) (c .answer2 .given .0 .0) (sym (ap (λ o. o .answer) (c .before .before .divide .ensures .0)) ∙ c .answer2 .given .1)
+    divided-accepted (a .agents) (a .items) (a .table) (a .allowance) (c .answer2 .given .0 .0) (sym (ap (λ o. o .answer) (c .before .before .divide .ensures .0)) ∙ c .answer2 .given .1)
 
 divide-requires : tie.Need-divide-requires
 divide-requires c κs = search needs
@@ -31,7 +31,7 @@ print-outcome-requires c κs =
     let told = accepted (c .before .before) in (
       counts-in-use (told .limits),
       rw (c .before .before .before .before .divide .ensures .0)
-          (text-short (a .agents) (a .items) (a .table) (c .before .before .answer2 .given .0 .0) told (table-small mostAgents mostItems (a .table) _ (s .good .0))),
+          (text-short (a .agents) (a .items) (a .table) (a .allowance) (c .before .before .answer2 .given .0 .0) told (table-small mostAgents mostItems (a .table) _ (s .good .0))),
     )
 
 returns : tie.Need-returns
@@ -40,7 +40,7 @@ returns c =
     let a = at-divide .before .before .args in
     let number = c .before .answer .given .0 .0 in
     let told = sym (ap (λ o. o .answer) (at-divide .divide .ensures .0)) ∙ c .before .answer .given .1 in
-    rw (refusal-printed (a .agents) (a .items) (a .table) (length (a .buffer .now)) number told) (refl, refl)
+    rw (refusal-printed (a .agents) (a .items) (a .table) (a .allowance) (length (a .buffer .now)) number told) (refl, refl)
 
 same-length : tie.Need-same-length
 same-length c = search needs
@@ -52,7 +52,7 @@ returns-2 c =
     let at-divide = at-answer .before .before in
     let a = at-divide .before .before .args in
     let grade = at-answer .answer2 .given .0 .0 in
-    rw (← division-printed (a .agents) (a .items) (a .table) grade (accepted at-answer) (length (a .buffer .now)), ← at-divide .divide .ensures .0)
+    rw (← division-printed (a .agents) (a .items) (a .table) (a .allowance) grade (accepted at-answer) (length (a .buffer .now)), ← at-divide .divide .ensures .0)
     (at-print .print-outcome .ensures)
 
 pub print-division-spec : {M : Type 1} → statement M

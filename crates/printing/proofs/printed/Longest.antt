@@ -17,6 +17,7 @@ use Rattle.sheet.specs.Answers.{accepted}
 use Rattle.sheet.specs.Valuations.{itemValue, value}
 use Rattle.sheet.specs.Tables.{valuation, allValues}
 use Rattle.cut.proofs.Laws.{shares-le-total}
+use Rattle.growth.specs.Growth.{growths}
 use Rattle.shares.specs.Shares.{shareOf}
 use Rattle.shares.proofs.Profile.{nth-shares}
 use Rattle.rounds.specs.Division.{divisionOf, divisionByRounds}
@@ -56,10 +57,10 @@ module _ (n m : ℕ) (table : List (List ℕ)) (some : 1 ≤ n) (few-items : m �
   divisionByRounds-length few =
       length-printed n m table (divisionByRounds n m table) few few-items (divisionByRounds-printable n m table some) divisionByRounds-worth-small divisionByRounds-share-small
 
--- every table within the limits is printed whole into a buffer of `longestPrinted` bytes
-pub printing-within-limits : (n m : ℕ) (table : List (List ℕ)) (room : ℕ) → CountsWithin n m → ((i k : ℕ) → itemValue (valuation table i) k ≤ greatestMark)
-    → longestPrinted ≤ room → printing n m table room ≡ accepted (printed n m table (divisionByRounds n m table))
+-- every table within the limits, with no more growth partitions than the allowance, is printed whole into a buffer of `longestPrinted` bytes
+pub printing-within-limits : (n m : ℕ) (table : List (List ℕ)) (allowance room : ℕ) → CountsWithin n m → ((i k : ℕ) → itemValue (valuation table i) k ≤ greatestMark)
+    → growths n m ≤ allowance → longestPrinted ≤ room → printing n m table allowance room ≡ accepted (printed n m table (divisionByRounds n m table))
 unfolding printing
-printing-within-limits n m table room w small enough =
+printing-within-limits n m table allowance room w small allowed enough =
     let short = divisionByRounds-length n m table (w .some) (w .few-items) small (w .few) in
-    rw (answer-within-limits n m table w, le-leb (length (printed n m table (divisionByRounds n m table))) room (omega arith))
+    rw (answer-within-limits n m table allowance w allowed, le-leb (length (printed n m table (divisionByRounds n m table))) room (omega arith))

@@ -3,7 +3,7 @@ use mathlib.Core.Path.{sym, _∙_}
 use lib.ListN.{take, replicate}
 use Rattle.printing.specs.Printing.{longestPrinted}
 use Rattle.writing.proofs.Lent.{lent-front}
-use Rattle.sheet_to_division.specs.ShareOut.{shareOut}
+use Rattle.sheet_to_division.specs.ShareOut.{shareOut, standardAllowance}
 use borrow.Author.Needs.{needs}
 use Rattle.shareout.proofs.main.Statement.{statement}
 use Rattle.shareout.proofs.main.Tie as tie
@@ -17,14 +17,14 @@ read-full-requires c κs = search needs
 array-share-prefix-text : tie.Need-array-share-prefix-text
 array-share-prefix-text c = search needs
 
-slice-aggregate-share-out : tie.Need-slice-aggregate-share-out
-slice-aggregate-share-out c = search needs
+slice-aggregate-share-out-standard : tie.Need-slice-aggregate-share-out-standard
+slice-aggregate-share-out-standard c = search needs
 
-slice-aggregate-share-out-2 : tie.Need-slice-aggregate-share-out-2
-slice-aggregate-share-out-2 c = search needs
+slice-aggregate-share-out-standard-2 : tie.Need-slice-aggregate-share-out-standard-2
+slice-aggregate-share-out-standard-2 c = search needs
 
-share-out-requires : tie.Need-share-out-requires
-share-out-requires c κs = search needs
+share-out-standard-requires : tie.Need-share-out-standard-requires
+share-out-standard-requires c κs = search needs
 
 enum-known-answer : tie.Need-enum-known-answer
 enum-known-answer c = search needs
@@ -39,15 +39,15 @@ array-share-prefix-buffer : tie.Need-array-share-prefix-buffer
 array-share-prefix-buffer c =
     let at-call = c .before .before .before .before in
     let at-read = at-call .before .before .before .before in
-    lent-front (shareOut (take (at-read .read-full .result) (at-read .read-full .last .1 .0)) longestPrinted) (replicate longestPrinted 0)
-    (at-call .share-out .ensures .1) (sym (at-call .share-out .ensures .0) ∙ c .before .answer2 .given .1) .0
+    lent-front (shareOut (take (at-read .read-full .result) (at-read .read-full .last .1 .0)) standardAllowance longestPrinted) (replicate longestPrinted 0)
+    (at-call .share-out-standard .ensures .1) (sym (at-call .share-out-standard .ensures .0) ∙ c .before .answer2 .given .1) .0
 
 slice-aggregate-write-all : tie.Need-slice-aggregate-write-all
 slice-aggregate-write-all c =
     let at-call = c .before .before .before .before .before in
     let at-read = at-call .before .before .before .before in
-    lent-front (shareOut (take (at-read .read-full .result) (at-read .read-full .last .1 .0)) longestPrinted) (replicate longestPrinted 0)
-    (at-call .share-out .ensures .1) (sym (at-call .share-out .ensures .0) ∙ c .before .before .answer2 .given .1) .1
+    lent-front (shareOut (take (at-read .read-full .result) (at-read .read-full .last .1 .0)) standardAllowance longestPrinted) (replicate longestPrinted 0)
+    (at-call .share-out-standard .ensures .1) (sym (at-call .share-out-standard .ensures .0) ∙ c .before .before .answer2 .given .1) .1
 
 write-all-requires : tie.Need-write-all-requires
 write-all-requires c κs = search needs
@@ -65,9 +65,9 @@ main-spec =
     slice-aggregate-read-full
     read-full-requires
     array-share-prefix-text
-    slice-aggregate-share-out
-    slice-aggregate-share-out-2
-    share-out-requires
+    slice-aggregate-share-out-standard
+    slice-aggregate-share-out-standard-2
+    share-out-standard-requires
     enum-known-answer
     refuse-requires
     enum-known-answer-2

@@ -24,7 +24,7 @@ returns c =
     let at-answer = c .before in
     let at-call = at-answer .before .before .before .before in
     let a = at-call .before .before .before .before .args in
-    let told = lent-refused (shareOut (a .text .now) (length (a .buffer .now))) (at-answer .answer .given .0 .0) (a .length .now) (sym (at-call .share-out .ensures .0) ∙ at-answer .answer .given .1) in
+    let told = lent-refused (shareOut (a .text .now) (a .allowance) (length (a .buffer .now))) (at-answer .answer .given .0 .0) (a .length .now) (sym (at-call .share-out .ensures .0) ∙ at-answer .answer .given .1) in
     (told .0, (at-call .share-out .ensures .1, told .1))
 
 same-length-2 : tie.Need-same-length-2
@@ -35,7 +35,7 @@ returns-2 c =
     let at-answer = c .before in
     let at-call = at-answer .before .before .before .before in
     let a = at-call .before .before .before .before .args in
-    let told = lent-written (shareOut (a .text .now) (length (a .buffer .now))) (at-answer .answer2 .given .0 .0) (a .length .now) (sym (at-call .share-out .ensures .0) ∙ at-answer .answer2 .given .1) in
+    let told = lent-written (shareOut (a .text .now) (a .allowance) (length (a .buffer .now))) (at-answer .answer2 .given .0 .0) (a .length .now) (sym (at-call .share-out .ensures .0) ∙ at-answer .answer2 .given .1) in
     (told .0, (at-call .share-out .ensures .1, told .1))
 
 pub shareout-text-spec : {M : Type 1} → statement M

@@ -3,7 +3,7 @@ use mathlib.Core.Path.{sym, _∙_}
 use lib.ListN.{replicate}
 use Rattle.printing.specs.Printing.{longestPrinted}
 use Rattle.writing.proofs.Lent.{lent-front}
-use Rattle.sheet_to_division.specs.ShareOut.{shareOut}
+use Rattle.sheet_to_division.specs.ShareOut.{shareOut, standardAllowance}
 use borrow.Author.Needs.{needs}
 use Rattle.shareout_samples.proofs.show.Statement.{statement}
 use Rattle.shareout_samples.proofs.show.Tie as tie
@@ -11,11 +11,11 @@ use Rattle.shareout_samples.proofs.show.Tie as tie
 print-requires : tie.Need-print-requires
 print-requires c κs = search needs
 
-slice-aggregate-share-out : tie.Need-slice-aggregate-share-out
-slice-aggregate-share-out c = search needs
+slice-aggregate-share-out-standard : tie.Need-slice-aggregate-share-out-standard
+slice-aggregate-share-out-standard c = search needs
 
-share-out-requires : tie.Need-share-out-requires
-share-out-requires c κs = search needs
+share-out-standard-requires : tie.Need-share-out-standard-requires
+share-out-standard-requires c κs = search needs
 
 enum-known-answer : tie.Need-enum-known-answer
 enum-known-answer c = search needs
@@ -29,14 +29,14 @@ enum-known-answer-2 c = search needs
 array-share-prefix-buffer : tie.Need-array-share-prefix-buffer
 array-share-prefix-buffer c =
     let at-call = c .before .before .before .before in
-    lent-front (shareOut (at-call .before .before .before .before .before .args .text .now) longestPrinted) (replicate longestPrinted 0)
-    (at-call .share-out .ensures .1) (sym (at-call .share-out .ensures .0) ∙ c .before .answer2 .given .1) .0
+    lent-front (shareOut (at-call .before .before .before .before .before .args .text .now) standardAllowance longestPrinted) (replicate longestPrinted 0)
+    (at-call .share-out-standard .ensures .1) (sym (at-call .share-out-standard .ensures .0) ∙ c .before .answer2 .given .1) .0
 
 slice-aggregate-print : tie.Need-slice-aggregate-print
 slice-aggregate-print c =
     let at-call = c .before .before .before .before .before in
-    lent-front (shareOut (at-call .before .before .before .before .before .args .text .now) longestPrinted) (replicate longestPrinted 0)
-    (at-call .share-out .ensures .1) (sym (at-call .share-out .ensures .0) ∙ c .before .before .answer2 .given .1) .1
+    lent-front (shareOut (at-call .before .before .before .before .before .args .text .now) standardAllowance longestPrinted) (replicate longestPrinted 0)
+    (at-call .share-out-standard .ensures .1) (sym (at-call .share-out-standard .ensures .0) ∙ c .before .before .answer2 .given .1) .1
 
 print-requires-2 : tie.Need-print-requires-2
 print-requires-2 c κs = search needs
@@ -52,8 +52,8 @@ show-spec =
     tie.close
     (tie.spec
     print-requires
-    slice-aggregate-share-out
-    share-out-requires
+    slice-aggregate-share-out-standard
+    share-out-standard-requires
     enum-known-answer
     refuse-requires
     enum-known-answer-2

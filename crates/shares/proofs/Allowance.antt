@@ -1,0 +1,50 @@
+-- What the allowance decides: where the growth partitions of all items do not outnumber it a table gets the answer that it has without
+-- an allowance, and else, within the limits, refusal 14. Assumes nothing.
+use mathlib.Core.Path.{_≡_, sym, ap, _∙_}
+use mathlib.Core.Logic.{_⊎_, inl, inr, ⊎-elim}
+use mathlib.Core.List.{List}
+use Prim.Native.Nat.{ℕ, _≤_, _<_}
+use native.Mathlib.Omega.{arith}
+use borrow.Author.Tests.{le-leb, lt-leb}
+use Rattle.lists.proofs.Cases.{lt-or-ge}
+use Rattle.sheet.specs.Limits.{CountsWithin}
+use Rattle.sheet.specs.Answers.{refused, accepted, require, andThen}
+use Rattle.sheet.proofs.Accepted.{andThen-accepted}
+use Rattle.growth.specs.Growth.{growths}
+use Rattle.growth.proofs.Growths.{mostGrowths, growths-le-most}
+use Rattle.shares.specs.Shares.{sharing, sharingWithin}
+use Rattle.shares.proofs.Refusals.{sharing-within, sharing-cases}
+
+module _ (n m : ℕ) (table : List (List ℕ)) (allowance : ℕ) where
+  -- 4, 5 and 9 are tried before 14
+  pub sharingWithin-refused : (number : ℕ) → sharing n m table ≡ refused number → sharingWithin n m table allowance ≡ refused number
+  unfolding sharingWithin
+  sharingWithin-refused number e = rw e
+
+  -- the allowance is enough
+  pub sharingWithin-enough : growths n m ≤ allowance → sharingWithin n m table allowance ≡ sharing n m table
+  unfolding sharingWithin
+  sharingWithin-enough enough =
+      ap (λ b. andThen (sharing n m table) (λ cuttings. require 14 b (accepted cuttings))) (le-leb (growths n m) allowance enough)
+      ∙ andThen-accepted (sharing n m table)
+
+  -- "when the growth layouts of all pieces into N piles outnumber A"
+  pub sharingWithin-short : CountsWithin n m → allowance < growths n m → sharingWithin n m table allowance ≡ refused 14
+  unfolding sharingWithin
+  sharingWithin-short w short = rw (sharing-within n m table w, lt-leb (growths n m) allowance short)
+
+  -- an allowance of the most growth partitions that a table has is enough for every table
+  pub sharingWithin-most : mostGrowths ≤ allowance → sharingWithin n m table allowance ≡ sharing n m table
+  sharingWithin-most most =
+      ⊎-elim
+      (λ w. sharingWithin-enough (omega (arith, most, growths-le-most n m (w .some) (w .few) (w .few-items))))
+      (λ (r : (number : ℕ) × (sharing n m table ≡ refused number)). sharingWithin-refused (r .0) (r .1) ∙ sym (r .1))
+      (sharing-cases n m table)
+
+  -- the counts are within the limits and the allowance is enough, or the table is refused
+  pub sharingWithin-cases : (CountsWithin n m × (growths n m ≤ allowance)) ⊎ ((number : ℕ) × (sharingWithin n m table allowance ≡ refused number))
+  sharingWithin-cases =
+      ⊎-elim
+      (λ w. ⊎-elim (λ short. inr (14, sharingWithin-short w short)) (λ enough. inl (w, enough)) (lt-or-ge allowance (growths n m)))
+      (λ r. inr (r .0, sharingWithin-refused (r .0) (r .1)))
+      (sharing-cases n m table)

@@ -1,0 +1,60 @@
+-- `shares::checked_cuts` meets its contract: within the limits the test of refusal 9 decides. Assumes nothing.
+use mathlib.Core.Path.{_≡_, sym, ap, _∙_}
+use mathlib.Core.Bool.{Bool}
+use mathlib.Core.List.{map}
+use borrow.Author.Needs.{needs}
+use borrow.Author.Tests.{not-true, not-false}
+use Rattle.sheet.specs.Limits.{mostAgents, mostItems}
+use Rattle.sheet.specs.Answers.{accepted, require}
+use Rattle.sheet.specs.Tables.{profile}
+use Rattle.sheet.proofs.Limits.{within-both, counts-in-use}
+use Rattle.cut.specs.Outcome.{cuttingOf}
+use Rattle.shares.specs.Shares.{sharing}
+use Rattle.shares.specs.Outcome.{outcome}
+use Rattle.shares.proofs.Refusals.{sharing-counts-within}
+use Rattle.shares.proofs.EachAgent.{outcome-each}
+use Rattle.shares.proofs.checked_cuts.Statement.{statement}
+use Rattle.shares.proofs.checked_cuts.Tie as tie
+
+-- the answer by the test of refusal 9
+tested : (c : tie.After-shares-covered) (b : Bool) → c .shares-covered .result ≡ b
+    → let a = c .before .before .before .args in
+    sharing (a .agents) (a .items) (a .table) ≡ require 9 b (accepted (map (cuttingOf (a .agents)) (profile (a .agents) (a .items) (a .table))))
+tested c b e =
+    let s = c .before .before .before in
+    let a = s .args in
+    let w = s .pre in
+    sharing-counts-within (a .agents) (a .items) (a .table) (within-both mostAgents (a .agents) (w .some) (w .few)) (within-both mostItems (a .items) (w .some-items) (w .few-items))
+    ∙ ap (λ t. require 9 t (accepted (map (cuttingOf (a .agents)) (profile (a .agents) (a .items) (a .table))))) (sym (c .shares-covered .ensures) ∙ e)
+
+own-cuts-requires : tie.Need-own-cuts-requires
+own-cuts-requires c κs = search needs
+
+shares-covered-requires : tie.Need-shares-covered-requires
+shares-covered-requires c κs =
+    let s = c .before .before in
+    let a = s .args in
+    record {
+      in-use = counts-in-use (s .pre);
+      small = c .before .own-cuts .ensures .1;
+      each = ap (λ o. o .shares) (c .before .own-cuts .ensures .0 ∙ outcome-each (a .agents) (a .items) (a .table));
+    }
+
+refuse-requires : tie.Need-refuse-requires
+refuse-requires c κs = search needs
+
+returns : tie.Need-returns
+returns c =
+    let t = c .before .before in
+    (c .refuse .ensures .0 ∙ ap outcome (sym (tested t _ (not-true _ (c .before .if1 .taken)))), c .refuse .ensures .1)
+
+returns-2 : tie.Need-returns-2
+returns-2 c =
+    let t = c .before in
+    let own = t .before .before .own-cuts in
+    (own .ensures .0 ∙ ap outcome (sym (tested t _ (not-false _ (c .if1 .left)))), own .ensures .1)
+
+pub checked-cuts-spec : {M : Type 1} → statement M
+checked-cuts-spec =
+    tie.close
+    (tie.spec own-cuts-requires shares-covered-requires refuse-requires returns returns-2)
