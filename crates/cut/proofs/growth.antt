@@ -2,4 +2,5 @@
 pub mod Scan
 pub mod Exchange
 pub mod Enough
+pub mod Searched
 pub mod Share

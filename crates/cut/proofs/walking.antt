@@ -1,3 +1,4 @@
 -- Laws of the walk: one step of it, and all of it.
 pub mod Steps
 pub mod Whole
+pub mod Answered

@@ -10,9 +10,9 @@ use sheet::Sheet;
 pub(crate) type Loads = [u64; Sheet::AGENTS];
 
 // The least of the first `bundles` loads.
-pub(crate) fn least(loads: Loads, bundles: usize) -> u64
+pub(crate) fn least(loads: &Loads, bundles: usize) -> u64
     requires { ⌜ (1 ≤ bundles) × (bundles ≤ mostAgents) ⌝ }
-    ensures { λ r. ⌜ r ≡ leastOf (loadOf loads) bundles ⌝ }
+    ensures { λ r. ⌜ r ≡ leastOf (loadOf (now (loads .entry))) bundles ⌝ }
 {
     let mut low = loads[0];
     let mut i: usize = 1;

@@ -30,9 +30,9 @@ fn supplied(values: &[u64], most: u64) -> u64
 }
 
 // Whether the first `bundles` loads lack more of the goal than `amount`, each lack counted up to `most`.
-fn lacks_more(loads: Loads, bundles: usize, goal: u64, most: u64, amount: u64) -> bool
+fn lacks_more(loads: &Loads, bundles: usize, goal: u64, most: u64, amount: u64) -> bool
     requires { ⌜ bundles ≤ mostAgents ⌝ }
-    ensures { λ r. ⌜ r ≡ ltb amount (demand goal (loadOf loads) bundles most) ⌝ }
+    ensures { λ r. ⌜ r ≡ ltb amount (demand goal (loadOf (now (loads .entry))) bundles most) ⌝ }
 {
     let mut left = amount;
     let mut i: usize = 0;
@@ -52,9 +52,9 @@ fn lacks_more(loads: Loads, bundles: usize, goal: u64, most: u64, amount: u64) -
 
 // Whether no partition of the values on top of the loads can reach the goal: for some bundle's lack as the threshold, the bundles
 // lack more than the values supply.
-pub(crate) fn is_short(values: &[u64], loads: Loads, bundles: usize, goal: u64) -> bool
+pub(crate) fn is_short(values: &[u64], loads: &Loads, bundles: usize, goal: u64) -> bool
     requires { ⌜ (total (now values) ≤ greatestSum) × (bundles ≤ mostAgents) ⌝ }
-    ensures { λ r. ⌜ r ≡ isShort goal (loadOf loads) bundles (now (values .entry)) ⌝ }
+    ensures { λ r. ⌜ r ≡ isShort goal (loadOf (now (loads .entry))) bundles (now (values .entry)) ⌝ }
 {
     let mut i: usize = 0;
     while i < bundles {

@@ -1,12 +1,26 @@
--- What a cut stores in the places that a caller by C's calling convention lends. Assumes nothing: these are definitions.
+-- What a caller by C's calling convention is answered, and what a cut stores in the places that it lends. Assumes nothing: these are definitions.
 use mathlib.Core.List.{List}
 use Prim.Native.Nat.{ℕ}
-use Rattle.cut.specs.Outcome.{Cutting, placed}
+use Rattle.sheet.specs.Answers.{Answer, refused, accepted}
+use Rattle.cut.specs.Outcome.{Found, shared, stopped, placed}
 
--- the share, in place of what stood there
-abbrev pub storeShare : Cutting → ℕ → ℕ
-storeShare c old = c .share
+-- the kind of answer: 0 for the share, 255, which is no refusal's number, for a cut that was stopped, or the number of the refusal
+abbrev pub kindOf : Answer Found → ℕ
+kindOf (refused number) = number
+kindOf (accepted (shared share partition count)) = 0
+kindOf (accepted (stopped least partition count)) = 255
+
+-- the share, or the best least bundle of a cut that was stopped, in place of what stood there
+abbrev pub storeFigure : Found → ℕ → ℕ
+storeFigure (shared share partition count) old = share
+storeFigure (stopped least partition count) old = least
 
 -- the partition in twelve places, in place of what stood there
-abbrev pub storePartition : Cutting → List ℕ → List ℕ
-storePartition c old = placed (c .partition)
+abbrev pub storePartition : Found → List ℕ → List ℕ
+storePartition (shared share partition count) old = placed partition
+storePartition (stopped least partition count) old = placed partition
+
+-- the number of growth partitions looked at, in place of what stood there
+abbrev pub storeCount : Found → ℕ → ℕ
+storeCount (shared share partition count) old = count
+storeCount (stopped least partition count) old = count

@@ -6,8 +6,8 @@ ghost use Rattle.sheet.specs.Limits.{mostAgents};
 ghost use Rattle.sheet.specs.Sets.{itemsOf};
 ghost use Rattle.cut.specs.Outcome.{placed};
 ghost use Rattle.serving.specs.Serving.{agentsIn};
-ghost use Rattle.division.specs.internal.Allocation.{withRound, allottedAll};
-ghost use Rattle.division.specs.internal.Left.{instanceFrom, cutByLowest, Cuttable, Ready};
+ghost use Rattle.division.specs.internal.Allocation.{nothing, withRound, allottedAll};
+ghost use Rattle.division.specs.internal.Left.{instanceFrom, cutByLowest, Cuttable, EnoughFor, Ready};
 use crate::handing::store;
 use crate::settling::settle_round;
 use cut::Partition;
@@ -24,6 +24,17 @@ pub struct Allocation {
     pub bundles: Sets,
     pub cutters: [u8; Sheet::AGENTS],
     pub rounds: usize,
+}
+
+// Before the first round nothing is handed out.
+pub(crate) fn nothing_handed_out() -> Allocation
+    ensures { λ r. ⌜ r ≡ nothing ⌝ }
+{
+    Allocation {
+        bundles: [0; Sheet::AGENTS],
+        cutters: [0; Sheet::AGENTS],
+        rounds: 0,
+    }
 }
 
 // One round more: its cutter, and the sets of the agents served.
@@ -43,32 +54,34 @@ fn hand_out(allocation: Allocation, cutter: u8, served: &[u8], sets: Sets) -> Al
     }
 }
 
-// The partition of the items left into as many bundles as there are agents left, by the lowest-numbered of them.
-fn cut_by_lowest(table: Table, left: u16, set: u16) -> Partition
-    requires { ⌜ Cuttable left set ⌝ }
+// The partition of the items left into as many bundles as there are agents left, by the lowest-numbered of them, with an allowance that
+// does not stop the cut.
+fn cut_by_lowest(table: Table, left: u16, set: u16, allowance: u32) -> Partition
+    requires { ⌜ Cuttable left set × EnoughFor allowance left set ⌝ }
     ensures { λ r. ⌜ r ≡ placed (cutByLowest table (agentsIn left) (itemsOf set)) ⌝ }
 {
     let agents = items_of(left);
     let numbers = agents.numbers;
     let cutter = numbers[0] as usize;
     let valuation = table[cutter - 1];
-    let cutting = cut(valuation, set, agents.count);
+    let cutting = cut(valuation, set, agents.count, allowance);
     let partition = cutting.partition;
     partition
 }
 
-// The allocation once the agents left have divided the items left: one round, and the agents that wait divide what it leaves.
-// `partition` is the cutter's cut of the items left.
+// The allocation once the agents left have divided the items left: one round, and the agents that wait divide what it leaves, with the same
+// allowance. `partition` is the cutter's cut of the items left.
 pub(crate) fn divide_left(
     table: Table,
     shares: Amounts,
     terms: Terms,
+    allowance: u32,
     left: u16,
     set: u16,
     partition: Partition,
     allocation: Allocation,
 ) -> Allocation
-    requires { ⌜ Ready terms shares left set allocation × (partition ≡ placed (cutByLowest table (agentsIn left) (itemsOf set))) ⌝ }
+    requires { ⌜ Ready terms shares allowance left set allocation × (partition ≡ placed (cutByLowest table (agentsIn left) (itemsOf set))) ⌝ }
     ensures { λ r. ⌜ r ≡ allottedAll (instanceFrom terms table shares) (agentsIn left) (itemsOf set) allocation ⌝ }
 {
     let round = settle_round(table, shares, terms, left, set, partition);
@@ -82,6 +95,6 @@ pub(crate) fn divide_left(
         return given;
     }
     let rest = round.left;
-    let next = cut_by_lowest(table, waiting, rest);
-    divide_left(table, shares, terms, waiting, rest, next, given)
+    let next = cut_by_lowest(table, waiting, rest, allowance);
+    divide_left(table, shares, terms, allowance, waiting, rest, next, given)
 }

@@ -5,8 +5,8 @@ ghost use Rattle.rounds.specs.Division.{divisionByRounds, answer};
 ghost use Rattle.division.specs.Outcome.{outcome};
 ghost use Rattle.division.specs.Promise.{Promised};
 ghost use Rattle.division.specs.internal.Shared.{IsShared};
-use crate::dividing::Allocation;
 use crate::dividing::divide_left;
+use crate::dividing::nothing_handed_out;
 use grading::grade_of;
 use grading::worths_of;
 use margins::margins_of;
@@ -57,23 +57,26 @@ fn refuse(number: u8) -> Outcome
 }
 
 // The division of a table that is not refused, from the shares and the cuts: the first cutter's own cut serves the first round.
-fn divide_shared(table: Table, agents: usize, items: usize, own: shares::Outcome) -> Outcome
-    requires { ⌜ IsShared agents items table own ⌝ }
+fn divide_shared(
+    table: Table,
+    agents: usize,
+    items: usize,
+    allowance: u32,
+    own: shares::Outcome,
+) -> Outcome
+    requires { ⌜ IsShared agents items table allowance own ⌝ }
     ensures { λ r. ⌜ r ≡ outcome (accepted (divisionByRounds agents items table)) ⌝ }
 {
     let shares = own.shares;
     let cuts = own.cuts;
     let first = cuts[0];
     let partition = first.partition;
-    let nothing = Allocation {
-        bundles: [0u16; Sheet::AGENTS],
-        cutters: [0u8; Sheet::AGENTS],
-        rounds: 0,
-    };
+    let nothing = nothing_handed_out();
     let allocation = divide_left(
         table,
         shares,
         terms_for(agents),
+        allowance,
         all_items(agents),
         all_items(items),
         partition,
@@ -104,6 +107,6 @@ pub fn divide(table: Table, agents: usize, items: usize, allowance: u32) -> Outc
     let answer = own.answer;
     match answer {
         shares::Answer::Refused(number) => refuse(number),
-        shares::Answer::Shared => divide_shared(table, agents, items, own),
+        shares::Answer::Shared => divide_shared(table, agents, items, allowance, own),
     }
 }

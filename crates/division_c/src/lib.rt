@@ -7,8 +7,8 @@ use division::Answer;
 use sheet::Sheet;
 use sheet::Table;
 
-// Divides the table among `agents` agents (yards) with an allowance for cutting. Answers 0 and stores the grade, each agent's bundle as a set of items and the cutter of each
-// round, 0 after the last; or answers the number of the refusal and stores nothing.
+// Divides the table among `agents` agents (yards) with an allowance for cutting. Answers 0 and stores the grade, each agent's bundle as
+// a set of items and the cutter of each round, 0 after the last; or answers the number of the refusal and stores nothing.
 #[no_mangle]
 pub extern "C" fn divide_table(
     table: &Table,

@@ -10,7 +10,7 @@ use Rattle.sheet.specs.Limits.{CountsWithin}
 use Rattle.sheet.specs.Sets.{itemsOf}
 use Rattle.sheet.specs.Valuations.{valuesOf}
 use Rattle.cut.specs.Share.{maximinShare, maximinPartition}
-use Rattle.cut.specs.Outcome.{Cutting, cutting}
+use Rattle.cut.specs.Outcome.{Found, shared, found, cutting}
 use Rattle.cut.proofs.Samples.{Sample as CutSample}
 use Rattle.margins.specs.Terms.{largestOdd, termsFor}
 use Rattle.margins.specs.Margins.{margin}
@@ -49,12 +49,12 @@ pub data Starred : Type 0 where
   cut : (sample : CutSample) → Starred
 
 -- what the definitions answer for a row
-abbrev pub worked : Starred → Answer Division ⊎ Answer Cutting
+abbrev pub worked : Starred → Answer Division ⊎ Answer Found
 worked (sheet s) = inl (answer (s .agents) (s .items) (s .rows) sampleAllowance)
-worked (cut s) = inr (cutting (s .valuation) (s .set) (s .bundles))
+worked (cut s) = inr (cutting (s .valuation) (s .set) (s .bundles) (s .allowance))
 
 -- what the row says
-abbrev pub stated : Starred → Answer Division ⊎ Answer Cutting
+abbrev pub stated : Starred → Answer Division ⊎ Answer Found
 stated (sheet s) = inl (accepted (s .division))
 stated (cut s) = inr (s .answered)
 
@@ -150,9 +150,9 @@ starred =
       };
     })
     -- g
-    ∷ cut (record { valuation = 1 ∷ 2 ∷ 3 ∷ 4 ∷ 5 ∷ 6 ∷ 7 ∷ []; set = 0b1111111; bundles = 3; answered = accepted (record { share = 9; partition = (1 ∷ 1 ∷ 2 ∷ 3 ∷ 3 ∷ 1 ∷ 2 ∷ []) }) })
+    ∷ cut (record { valuation = 1 ∷ 2 ∷ 3 ∷ 4 ∷ 5 ∷ 6 ∷ 7 ∷ []; set = 0b1111111; bundles = 3; allowance = sampleAllowance; answered = accepted (shared 9 (1 ∷ 1 ∷ 2 ∷ 3 ∷ 3 ∷ 1 ∷ 2 ∷ []) 365) })
     -- h
-    ∷ cut (record { valuation = 2 ∷ 2 ∷ 2 ∷ 2 ∷ []; set = 0b1111; bundles = 2; answered = accepted (record { share = 4; partition = (1 ∷ 1 ∷ 2 ∷ 2 ∷ []) }) })
+    ∷ cut (record { valuation = 2 ∷ 2 ∷ 2 ∷ 2 ∷ []; set = 0b1111; bundles = 2; allowance = sampleAllowance; answered = accepted (shared 4 (1 ∷ 1 ∷ 2 ∷ 2 ∷ []) 8) })
     -- i
     ∷ sheet (record {
       agents = 1;
@@ -185,13 +185,13 @@ starred =
 
 -- "The starred sheets are proved as a table, by one theorem covering its rows"
 pub starred-hold : map worked starred ≡ map stated starred
-unfolding starred answer divisionOf sharingWithin growths sharing sharesCovered profile termsFor largestOdd round rounds held waitingSet matching maximinShare maximinPartition margin grade envyFree proportional maximinFair cutting valuesOf itemsOf
+unfolding starred answer divisionOf sharingWithin growths sharing sharesCovered profile termsFor largestOdd round rounds held waitingSet matching maximinShare maximinPartition margin grade envyFree proportional maximinFair cutting found valuesOf itemsOf
 starred-hold = refl
 
 -- sheet a has four growth layouts: an allowance of three gives 14, one of four its division; and 4 and 5 are tried before 14
 pub allowances-hold : answer 2 3 (sheetA .rows) 3 ∷ answer 2 3 (sheetA .rows) 4 ∷ answer 7 3 [] 0 ∷ answer 2 13 [] 0 ∷ []
     ≡ refused 14 ∷ accepted (sheetA .division) ∷ refused 4 ∷ refused 5 ∷ []
-unfolding answer divisionOf sharingWithin growths sharing sharesCovered profile termsFor largestOdd round rounds held waitingSet matching maximinShare maximinPartition margin grade envyFree proportional maximinFair cutting valuesOf itemsOf
+unfolding answer divisionOf sharingWithin growths sharing sharesCovered profile termsFor largestOdd round rounds held waitingSet matching maximinShare maximinPartition margin grade envyFree proportional maximinFair
 allowances-hold = refl
 
 players-within : CountsWithin 3 12
@@ -214,7 +214,7 @@ abbrev pub samples : List Sample
 samples = sheetsOf starred
 
 -- the divisions among several answers
-abbrev divisionsOf : List (Answer Division ⊎ Answer Cutting) → List (Answer Division)
+abbrev divisionsOf : List (Answer Division ⊎ Answer Found) → List (Answer Division)
 divisionsOf [] = []
 divisionsOf (inl d ∷ rows) = d ∷ divisionsOf rows
 divisionsOf (inr c ∷ rows) = divisionsOf rows

@@ -1,38 +1,45 @@
 -- The shares and the cuts of a table, one agent after the other. Assumes nothing.
-use mathlib.Core.Path.{_≡_, sym, ap, ap₂, _∙_}
+use mathlib.Core.Path.{_≡_, sym, ap, ap₂, subst⁻¹, _∙_}
 use mathlib.Core.List.{List, map, map-map}
 use Prim.Native.Nat.{ℕ, _*_, _^_, _≤_, _<_, min}
 use native.Mathlib.Nat.{pow-le-pow-right}
 use native.Mathlib.Omega.{arith}
 use lib.Dec.{leb}
+use lib.ListN.{length, length-map}
 use Rattle.lists.specs.Lists.{range, padded, all}
 use Rattle.lists.specs.Sums.{total}
 use Rattle.lists.proofs.members.Tests.{all-map}
+use Rattle.lists.proofs.ranges.Ranges.{length-range}
 use Rattle.sheet.specs.Limits.{mostAgents, mostItems, InUse}
 use Rattle.sheet.specs.Answers.{accepted}
 use Rattle.sheet.specs.Sets.{setOf}
+use Rattle.sheet.specs.Valuations.{itemValue, valuesOf}
 use Rattle.sheet.specs.Tables.{valuation, allValues, profile}
 use Rattle.sheet.proofs.sets.Ranges.{setOf-upTo}
 use Rattle.sheet.proofs.sets.Remainders.{values-all}
+use Rattle.growth.specs.Growth.{growths}
 use Rattle.cut.specs.Share.{maximinShare, maximinPartition}
-use Rattle.cut.specs.Outcome.{cutting, cuttingOf}
-use Rattle.cut.proofs.Laws.{cutting-accepted}
+use Rattle.cut.specs.Outcome.{cutting, cuttingOf, wholeCut}
+use Rattle.cut.proofs.Allowance.{cutting-shared}
 use Rattle.shares.specs.Shares.{shareOf, sharesCovered}
 use Rattle.shares.specs.Outcome.{cutOf, blankCut, outcome}
 use Rattle.shares.specs.declared.Answer.the-variants.{Shared}
 use Rattle.shares.specs.declared.Cut.{Cut}
 use Rattle.shares.specs.declared.Outcome.{Outcome}
 
--- within the limits the cut of all items is not refused
-pub cutting-all : (row : List ℕ) (n m : ℕ) → InUse n m → cutting row (setOf (range 1 (min m mostItems))) n ≡ accepted (cuttingOf n (allValues m row))
-cutting-all row n m in-use =
+-- within the limits, and with an allowance that is enough, the cut of all items is neither refused nor stopped
+pub cutting-all : (row : List ℕ) (n m allowance : ℕ) → InUse n m → growths n m ≤ allowance
+    → cutting row (setOf (range 1 (min m mostItems))) n allowance ≡ accepted (wholeCut n (allValues m row))
+cutting-all row n m allowance in-use enough =
     let few : m ≤ mostItems = in-use .few-items in
     let e : min m mostItems ≡ m = omega arith in
     let power : 2 ^ m ≤ 2 ^ mostItems = pow-le-pow-right {n = 2} (omega arith) few in
     let small : setOf (range 1 m) < 2 ^ mostItems = omega (arith, setOf-upTo m) in
-    ap (λ k. cutting row (setOf (range 1 k)) n) e
-    ∙ cutting-accepted row (setOf (range 1 m)) n (in-use .some) (in-use .few) small
-    ∙ ap (λ values. accepted (cuttingOf n values)) (values-all m (omega arith) row)
+    let values : valuesOf row (setOf (range 1 m)) ≡ allValues m row = values-all m (omega arith) row in
+    let count : length (valuesOf row (setOf (range 1 m))) ≡ m = ap length values ∙ length-map (range 1 m) (itemValue row) ∙ length-range 1 m in
+    ap (λ k. cutting row (setOf (range 1 k)) n allowance) e
+    ∙ cutting-shared row (setOf (range 1 m)) n allowance (in-use .some) (in-use .few) small (subst⁻¹ (λ k. growths n k ≤ allowance) count enough)
+    ∙ ap (λ values. accepted (wholeCut n values)) values
 
 -- shares and cuts, a place for each agent
 abbrev pub sharedAs : List ℕ → List Cut → Outcome

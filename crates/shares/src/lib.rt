@@ -6,6 +6,7 @@ ghost use Rattle.sheet.specs.Limits.{greatestSum, CountsWithin, InUse};
 ghost use Rattle.sheet.specs.Answers.{refused, accepted};
 ghost use Rattle.sheet.specs.Tables.{allValues, profile};
 ghost use Rattle.sheet.specs.Amounts.{SmallAmounts};
+ghost use Rattle.growth.specs.Growth.{growths};
 ghost use Rattle.cut.specs.Outcome.{cuttingOf};
 ghost use Rattle.shares.specs.Shares.{sharesCovered, sharing, sharingWithin};
 ghost use Rattle.shares.specs.Outcome.{outcome};
@@ -44,24 +45,25 @@ struct OwnCut {
     cut: Cut,
 }
 
-// The share and the cut of the items from 1 to `items` in `bundles` bundles.
-fn own_cut(valuation: Row, items: usize, bundles: usize) -> OwnCut
-    requires { ⌜ InUse bundles items ⌝ }
+// The share and the cut of the items from 1 to `items` in `bundles` bundles, with an allowance that does not stop the cut.
+fn own_cut(valuation: Row, items: usize, bundles: usize, allowance: u32) -> OwnCut
+    requires { ⌜ InUse bundles items × (growths bundles items ≤ allowance) ⌝ }
     ensures { λ r. ⌜ (r ≡ ownCut bundles (allValues items valuation)) × (r .share ≤ greatestSum) ⌝ }
 {
-    let outcome = cut::cut(valuation, all_items(items), bundles);
+    let outcome = cut::cut(valuation, all_items(items), bundles, allowance);
     let answer = outcome.answer;
     let partition = outcome.partition;
     let cut = Cut { partition };
     match answer {
         cut::Answer::Share(share) => OwnCut { share, cut },
+        cut::Answer::Stopped(_) => OwnCut { share: 0, cut },
         cut::Answer::Refused(_) => OwnCut { share: 0, cut },
     }
 }
 
-// The share and the cut of each agent: over all items, and in as many bundles as there are agents.
-fn own_cuts(table: Table, agents: usize, items: usize) -> Outcome
-    requires { ⌜ InUse agents items ⌝ }
+// The share and the cut of each agent: over all items, in as many bundles as there are agents, and with an allowance that stops no cut.
+fn own_cuts(table: Table, agents: usize, items: usize, allowance: u32) -> Outcome
+    requires { ⌜ InUse agents items × (growths agents items ≤ allowance) ⌝ }
     ensures { λ r. ⌜ (r ≡ outcome (accepted (map (cuttingOf agents) (profile agents items table)))) × SmallAmounts (r .shares) ⌝ }
 {
     let blank = Cut {
@@ -72,7 +74,7 @@ fn own_cuts(table: Table, agents: usize, items: usize) -> Outcome
     let mut i: usize = 0;
     while i < agents {
         let valuation = table[i];
-        let own = own_cut(valuation, items, agents);
+        let own = own_cut(valuation, items, agents, allowance);
         let cut = own.cut;
         shares[i] = own.share;
         cuts[i] = cut;
@@ -117,12 +119,13 @@ fn refuse(number: u8) -> Outcome
     }
 }
 
-// The share and the cut of each agent, where the counts are within the limits. Refused with 9 where the makers' check fails.
-fn checked_cuts(table: Table, agents: usize, items: usize) -> Outcome
-    requires { ⌜ CountsWithin agents items ⌝ }
+// The share and the cut of each agent, where the counts are within the limits and the allowance stops no cut. Refused with 9 where the
+// makers' check fails.
+fn checked_cuts(table: Table, agents: usize, items: usize, allowance: u32) -> Outcome
+    requires { ⌜ CountsWithin agents items × (growths agents items ≤ allowance) ⌝ }
     ensures { λ r. ⌜ (r ≡ outcome (sharing agents items table)) × SmallAmounts (r .shares) ⌝ }
 {
-    let own = own_cuts(table, agents, items);
+    let own = own_cuts(table, agents, items, allowance);
     let shares = own.shares;
     if !shares_covered(table, agents, items, shares) {
         return refuse(9);
@@ -145,7 +148,7 @@ pub fn share_each_within(table: Table, agents: usize, items: usize, allowance: u
     if allowance < growth::count(items, agents) {
         return refuse(14);
     }
-    checked_cuts(table, agents, items)
+    checked_cuts(table, agents, items, allowance)
 }
 
 // The maximin share and the cut of each agent, with an allowance that is enough for every table. Refused with 4 or 5 where the agents or

@@ -7,11 +7,11 @@ ghost use Rattle.writing.specs.Filled.{filled};
 ghost use Rattle.sheet_to_division.specs.ShareOut.{shareOut, standardAllowance};
 use writing::Answer;
 
-// The dividing program allows 4,000,000.
+// How many growth partitions each cut of the dividing program may look at: "The dividing program allows 4,000,000".
 pub const ALLOWANCE: u32 = 4000000;
 
-// Prints the division of the sheet that `text` holds into the lent buffer and answers the length printed, or answers the number of
-// the first reason to turn the sheet down and leaves the buffer as it is.
+// Prints the division of the sheet that `text` holds, with an allowance for cutting, into the lent buffer and answers the length
+// printed, or answers the number of the first reason to turn the sheet down and leaves the buffer as it is.
 pub fn share_out(text: &[u8], allowance: u32, buffer: &mut [u8]) -> Answer
     ensures answer { λ r. ⌜ r ≡ answered (shareOut (now (text .entry)) allowance (length (now (buffer .entry)))) ⌝ }
     ensures buffer { λ _. ⌜ now (buffer .exit) ≡ after filled (shareOut (now (text .entry)) allowance (length (now (buffer .entry)))) (now (buffer .entry)) ⌝ }

@@ -16,9 +16,10 @@ use Rattle.lists.proofs.ranges.Ranges.{range-append, in-range, range-bounds}
 use Rattle.lists.proofs.dictionary.Listed.{branch-of, in-branches, branches-append}
 use Rattle.lists.proofs.sums.LeastOf.{leastOf-cong}
 use Rattle.lists.proofs.sums.Exchange.{exchange, exchange-left, exchange-within}
+use Rattle.growth.specs.Growth.{growthFrom}
 use Rattle.cut.specs.Partitions.{partitions}
 use Rattle.cut.specs.internal.Loads.{leastLoaded}
-use Rattle.cut.specs.internal.Scan.{growthPartitions, scan}
+use Rattle.cut.specs.internal.Scan.{scan}
 use Rattle.cut.specs.Share.{bundleValue}
 use Rattle.cut.specs.declared.walking.Best.{Best}
 use Rattle.cut.proofs.growth.Scan.{scan-append, scan-map, scan-covers, scan-idle}
@@ -35,11 +36,11 @@ emptyAbove-loaded load used c v above-empty d above = rw (ne-eqb d c (omega arit
 
 module _ (n : ℕ) (load : ℕ → ℕ) (v : ℕ) (values : List ℕ) where
   -- the least bundle of the partitions of v and the other values
-  abbrev reach : List ℕ → ℕ
+  abbrev pub reach : List ℕ → ℕ
   reach = leastLoaded n load (v ∷ values)
 
   -- the first value is laid
-  leastLoaded-cons : (c : ℕ) (l : List ℕ) → reach (c ∷ l) ≡ leastLoaded n (loaded load c v) values l
+  pub leastLoaded-cons : (c : ℕ) (l : List ℕ) → reach (c ∷ l) ≡ leastLoaded n (loaded load c v) values l
   leastLoaded-cons c l = leastOf-cong _ _ n (λ d _ _. sym (add-assoc (load d) (cond (eqb d c) v 0) (bundleValue d values l)))
 
   -- the first branch is scanned, and then the others
@@ -109,9 +110,9 @@ module _ (n : ℕ) (load : ℕ → ℕ) (v : ℕ) (values : List ℕ) where
 
 -- growth partitions are enough, from any loads
 pub scan-growth : (n used : ℕ) (values : List ℕ) (load : ℕ → ℕ) (h : List ℕ → List ℕ) (b : Best) → EmptyAbove load used
-    → scan (leastLoaded n load values) h b (partitions n (length values)) ≡ scan (leastLoaded n load values) h b (growthPartitions n used (length values))
+    → scan (leastLoaded n load values) h b (partitions n (length values)) ≡ scan (leastLoaded n load values) h b (growthFrom n used (length values))
 scan-growth n used [] load h b above-empty = refl
 scan-growth n used (v ∷ values) load h b above-empty =
     scan-skips-late n load v values used above-empty h b
-    ∙ scan-branches n load v values h (λ _. partitions n (length values)) (λ c. growthPartitions n (max used c) (length values)) b (range 1 (min (suc used) n))
+    ∙ scan-branches n load v values h (λ _. partitions n (length values)) (λ c. growthFrom n (max used c) (length values)) b (range 1 (min (suc used) n))
     (λ c k a. scan-growth n (max used c) values (loaded load c v) k a (emptyAbove-loaded load used c v above-empty))

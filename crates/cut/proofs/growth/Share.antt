@@ -1,28 +1,53 @@
 -- The maximin share and the cut are found among the growth partitions. Assumes nothing.
-use mathlib.Core.Path.{_≡_, sym, ap, fun-ext, _∙_}
-use mathlib.Core.List.{List}
+use mathlib.Core.Path.{_≡_, refl, sym, ap, fun-ext, _∙_}
+use mathlib.Core.List.{List, []}
 use Prim.Native.Nat.{ℕ, _+_, _≤_}
+use native.Mathlib.Nat.{zero-add}
 use native.Mathlib.Omega.{arith}
 use lib.ListN.{length}
+use Rattle.lists.specs.Dictionary.{greatest, firstBest}
 use Rattle.lists.proofs.sums.LeastOf.{leastOf-cong}
+use Rattle.growth.specs.Growth.{growthPartitions}
+use Rattle.growth.proofs.Listed.{growth-inhabited}
 use Rattle.cut.specs.Partitions.{partitions}
 use Rattle.cut.specs.Share.{bundleValue, leastBundle, maximinShare, maximinPartition}
 use Rattle.cut.specs.internal.Loads.{leastLoaded}
-use Rattle.cut.specs.internal.Scan.{growthPartitions, scan}
+use Rattle.cut.specs.internal.Scan.{scan}
 use Rattle.cut.specs.declared.walking.Best.{Best}
 use Rattle.cut.proofs.Partitions.{partitions-inhabited}
-use Rattle.cut.proofs.growth.Scan.{scan-best}
+use Rattle.cut.proofs.growth.Scan.{bestOf, scan-best}
 use Rattle.cut.proofs.growth.Enough.{scan-growth}
 
-module _ (n : ℕ) (values : List ℕ) (some : 1 ≤ n) (load : ℕ → ℕ) (empty : (c : ℕ) → load c ≡ 0) where
-  leastLoaded-empty : leastLoaded n load values ≡ leastBundle n values
-  leastLoaded-empty = fun-ext (λ l. leastOf-cong (λ c. load c + bundleValue c values l) (λ c. bundleValue c values l) n (λ c _ _. omega (arith, empty c)))
+module _ (n : ℕ) (values : List ℕ) (some : 1 ≤ n) where
+  -- the values of the bundles of a partition, and the best of a list of partitions
+  abbrev least : List ℕ → ℕ
+  least = leastBundle n values
 
-  -- a scan of the growth partitions over empty bundles ends at the share and the cut
-  pub scan-maximinPartition : (h : List ℕ → List ℕ) (b : Best) → b .goal ≡ 0
-      → scan (leastLoaded n load values) h b (growthPartitions n 0 (length values)) ≡ record { goal = maximinShare n values + 1; partition = h (maximinPartition n values) }
+  abbrev unloaded : List ℕ → ℕ
+  unloaded = leastLoaded n (λ _. 0) values
+
+  unloaded-least : unloaded ≡ least
+  unloaded-least = fun-ext (λ l. leastOf-cong (λ c. 0 + bundleValue c values l) (λ c. bundleValue c values l) n (λ c _ _. zero-add (bundleValue c values l)))
+
+  none : Best
+  none = record { goal = 0; partition = [] }
+
+  -- a scan of the growth partitions and one of all partitions end at the same best
+  best-growth : bestOf least (λ l. l) (growthPartitions n (length values)) ≡ bestOf least (λ l. l) (partitions n (length values))
+  unfolding none
+  best-growth =
+      sym (scan-best least (λ l. l) none (growthPartitions n (length values)) (growth-inhabited n 0 (length values) some) refl)
+      ∙ ap (λ v. scan v (λ l. l) none (growthPartitions n (length values))) (sym unloaded-least)
+      ∙ sym (scan-growth n 0 values (λ _. 0) (λ l. l) none (λ _ _. refl))
+      ∙ ap (λ v. scan v (λ l. l) none (partitions n (length values))) unloaded-least
+      ∙ scan-best least (λ l. l) none (partitions n (length values)) (partitions-inhabited n (length values) some) refl
+
+  -- the best over the growth partitions is the share
+  pub greatest-growth : greatest (leastBundle n values) (growthPartitions n (length values)) ≡ maximinShare n values
+  unfolding maximinShare
+  greatest-growth = omega (arith, ap (λ b. b .goal) best-growth)
+
+  -- the first growth partition that reaches it is the cut
+  pub firstBest-growth : firstBest (leastBundle n values) (growthPartitions n (length values)) ≡ maximinPartition n values
   unfolding maximinShare maximinPartition
-  scan-maximinPartition h b e =
-      sym (scan-growth n 0 values load h b (λ c _. empty c))
-      ∙ ap (λ v. scan v h b (partitions n (length values))) leastLoaded-empty
-      ∙ scan-best (leastBundle n values) h b (partitions n (length values)) (partitions-inhabited n (length values) some) e
+  firstBest-growth = ap (λ b. b .partition) best-growth

@@ -3,7 +3,7 @@ use mathlib.Core.Path.{_≡_, sym, ap, ap₂, fun-ext, _∙_}
 use mathlib.Core.Bool.{true}
 use mathlib.Core.Logic.{⊎-elim}
 use mathlib.Core.List.{List, [], _∷_, _++_}
-use Prim.Native.Nat.{ℕ, _+_, _<_, min, max}
+use Prim.Native.Nat.{ℕ, _+_, _-_, _≤_, _<_, min, max}
 use native.Mathlib.Nat.{add-zero}
 use native.Mathlib.Numerals.{add-one}
 use native.Mathlib.Omega.{arith}
@@ -16,41 +16,54 @@ use Rattle.lists.proofs.Cases.{eq-or-ne}
 use Rattle.lists.proofs.places.Passing.{range-next}
 use Rattle.lists.proofs.sums.LeastOf.{leastOf-cong}
 use Rattle.lists.proofs.dictionary.Listed.{branches-append}
+use Rattle.growth.specs.Growth.{growthFrom}
 use Rattle.cut.specs.Share.{bundleValue}
 use Rattle.cut.specs.internal.Loads.{loadOf, leastLoaded}
-use Rattle.cut.specs.internal.Scan.{growthPartitions, keep, scan}
+use Rattle.cut.specs.internal.Scan.{keep, searched, passing}
 use Rattle.cut.specs.internal.Pruning.{isShort}
 use Rattle.cut.specs.internal.Walk.{Walkable, walked}
-use Rattle.cut.specs.declared.walking.Best.{Best}
-use Rattle.cut.proofs.growth.Scan.{scan-append, scan-idle}
-use Rattle.cut.proofs.growth.Enough.{scan-branch}
+use Rattle.cut.specs.declared.walking.Search.{Search}
+use Rattle.cut.proofs.growth.Searched.{searchOf, searched-append, searched-nil, searched-spent, searched-all, searched-idle, searched-branch}
 use Rattle.cut.proofs.pruning.Threshold.{isShort-below-goal}
 use Rattle.cut.proofs.loads.Stored.{loaded, loaded-stored}
 
-module _ (bundles at used : ℕ) (loads partition : List ℕ) (best : Best) where
-  -- where the values cannot supply what the bundles lack, nothing is better
-  pub walked-short : (values : List ℕ) → isShort (best .goal) (loadOf loads) bundles values ≡ true → walked values bundles at used loads partition best ≡ best
+module _ (bundles at used : ℕ) (loads partition : List ℕ) (search : Search) where
+  -- the allowance is spent
+  pub walked-spent : (values : List ℕ) → search .allowance ≡ 0 → walked values bundles at used loads partition search ≡ search
+  unfolding walked
+  walked-spent values e =
+      searched-spent (leastLoaded bundles (loadOf loads) values) (sets partition at) search (growthFrom bundles used (length values)) e
+
+  -- where the values cannot supply what the bundles lack, nothing is better, and all growth partitions are passed over
+  pub walked-short : (values : List ℕ) → isShort (search .best .goal) (loadOf loads) bundles values ≡ true
+      → walked values bundles at used loads partition search ≡ passing (length (growthFrom bundles used (length values))) search
   unfolding walked
   walked-short values short =
-      scan-idle (leastLoaded bundles (loadOf loads) values) (sets partition at) best (growthPartitions bundles used (length values))
-      (λ l _. isShort-below-goal (best .goal) (loadOf loads) bundles values l short)
+      searched-idle (leastLoaded bundles (loadOf loads) values) (sets partition at) search (growthFrom bundles used (length values))
+      (λ l _. isShort-below-goal (search .best .goal) (loadOf loads) bundles values l short)
 
   -- all values are laid
-  pub walked-end : walked [] bundles at used loads partition best ≡ keep (leastOf (loadOf loads) bundles) partition best
+  pub walked-end : 1 ≤ search .allowance
+      → walked [] bundles at used loads partition search ≡ searchOf (keep (leastOf (loadOf loads) bundles) partition (search .best)) (search .allowance - 1)
   unfolding walked
-  walked-end =
+  walked-end some =
       let low : leastLoaded bundles (loadOf loads) [] [] ≡ leastOf (loadOf loads) bundles = leastOf-cong (λ c. loadOf loads c + 0) (loadOf loads) bundles (λ c _ _. add-zero (loadOf loads c)) in
-      rw low
+      searched-all (leastLoaded bundles (loadOf loads) []) (sets partition at) search ([] ∷ []) some
+      ∙ ap (λ v. searchOf (keep v partition (search .best)) (search .allowance - 1)) low
 
   module _ (value : ℕ) (rest : List ℕ) where
-    -- the best once the partitions that lay the next value on one of the bundles 1 .. bundle are tried
-    abbrev pub walkedUpTo : ℕ → Best
+    -- the search once the partitions that lay the next value on one of the bundles 1 .. bundle are tried
+    abbrev pub walkedUpTo : ℕ → Search
     walkedUpTo bundle =
-        scan (leastLoaded bundles (loadOf loads) (value ∷ rest)) (sets partition at) best
-        (branches (λ c. growthPartitions bundles (max used c) (length rest)) (range 1 bundle))
+        searched (leastLoaded bundles (loadOf loads) (value ∷ rest)) (sets partition at) search
+        (branches (λ c. growthFrom bundles (max used c) (length rest)) (range 1 bundle))
+
+    -- before the first bundle nothing is tried
+    pub walkedUpTo-none : walkedUpTo 0 ≡ search
+    walkedUpTo-none = searched-nil (leastLoaded bundles (loadOf loads) (value ∷ rest)) (sets partition at) search
 
     -- a walk tries the bundles in use and the next new one
-    pub walked-all : walked (value ∷ rest) bundles at used loads partition best ≡ walkedUpTo (min (used + 1) bundles)
+    pub walked-all : walked (value ∷ rest) bundles at used loads partition search ≡ walkedUpTo (min (used + 1) bundles)
     unfolding walked
     walked-all = rw (add-one used)
 
@@ -61,18 +74,19 @@ module _ (bundles at used : ℕ) (loads partition : List ℕ) (best : Best) wher
     unfolding walked
     walkedUpTo-next bundle inside =
         let c = bundle + 1 in
-        let next : ℕ → List (List ℕ) = λ c. growthPartitions bundles (max used c) (length rest) in
+        let next : ℕ → List (List ℕ) = λ c. growthFrom bundles (max used c) (length rest) in
         let load = loadOf loads in
         let more : range 1 c ≡ range 1 bundle ++ (c ∷ []) = range-next bundle in
         let reach = leastLoaded bundles load (value ∷ rest) in
         let tried = walkedUpTo bundle in
         let stored : (λ l. leastLoaded bundles (loaded load c value) rest l) ≡ leastLoaded bundles (loadOf (set loads bundle (getD loads bundle 0 + value))) rest =
         fun-ext (λ l. leastOf-cong _ _ bundles (λ d pos _. ap (λ x. x + bundleValue d rest l) (loaded-stored loads bundle value d inside pos))) in
-        ap (λ r. scan reach (sets partition at) best (branches next r)) more
-        ∙ ap (scan reach (sets partition at) best) (branches-append next (range 1 bundle) (c ∷ []))
-        ∙ scan-append reach (sets partition at) best (branches next (range 1 bundle)) (branches next (c ∷ []))
-        ∙ scan-branch bundles load value rest (sets partition at) next tried c []
-        ∙ ap₂ (λ v k. scan v (sets (set partition at c) k) tried (next c)) stored (sym (add-one at))
+        ap (λ r. searched reach (sets partition at) search (branches next r)) more
+        ∙ ap (searched reach (sets partition at) search) (branches-append next (range 1 bundle) (c ∷ []))
+        ∙ searched-append reach (sets partition at) search (branches next (range 1 bundle)) (branches next (c ∷ []))
+        ∙ searched-branch bundles load value rest (sets partition at) next tried c []
+        ∙ searched-nil reach (sets partition at) (searched (leastLoaded bundles (loaded load c value) rest) (λ l. sets partition at (c ∷ l)) tried (next c))
+        ∙ ap₂ (λ v k. searched v (sets (set partition at c) k) tried (next c)) stored (sym (add-one at))
 
     -- the next value is laid
     pub walkable-next : Walkable (value ∷ rest) bundles at used loads → (bundle : ℕ) → bundle < bundles → bundle < length loads

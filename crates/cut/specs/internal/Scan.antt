@@ -1,17 +1,12 @@
--- The growth partitions, and the first best of a list of partitions as a walk that keeps the best so far finds it.
+-- The first best of a list of partitions, as a walk that keeps the best so far and has an allowance finds it.
 -- Assumes nothing: these are definitions.
 use mathlib.Core.Bool.{cond}
 use mathlib.Core.List.{List, [], _∷_}
-use Prim.Native.Nat.{ℕ, zero, suc, _+_, min, max}
+use Prim.Native.Nat.{ℕ, _+_, _-_}
 use lib.Dec.{leb}
-use Rattle.lists.specs.Lists.{range}
-use Rattle.lists.specs.Dictionary.{branches}
+use lib.ListN.{length, take}
 use Rattle.cut.specs.declared.walking.Best.{Best}
-
--- the partitions of k more items that open new bundles in order, where the bundles 1 .. used are in use
-abbrev pub growthPartitions : ℕ → ℕ → ℕ → List (List ℕ)
-growthPartitions n used zero = [] ∷ []
-growthPartitions n used (suc k) = branches (λ c. growthPartitions n (max used c) k) (range 1 (min (suc used) n))
+use Rattle.cut.specs.declared.walking.Search.{Search}
 
 -- l, whose least bundle is v, takes the place of a best whose goal it reaches
 abbrev pub keep : ℕ → List ℕ → Best → Best
@@ -21,3 +16,11 @@ keep v l b = cond (leb (b .goal) v) (record { goal = v + 1; partition = l }) b
 abbrev pub scan : (List ℕ → ℕ) → (List ℕ → List ℕ) → Best → List (List ℕ) → Best
 scan v h b [] = b
 scan v h b (l ∷ ls) = scan v h (keep (v l) (h l) b) ls
+
+-- the search once the lists are tried in turn as far as its allowance goes, which falls by one with each
+abbrev pub searched : (List ℕ → ℕ) → (List ℕ → List ℕ) → Search → List (List ℕ) → Search
+searched v h s ls = record { best = scan v h (s .best) (take (s .allowance) ls); allowance = s .allowance - length ls }
+
+-- the search once so many lists, of which none reaches the goal, are passed over
+abbrev pub passing : ℕ → Search → Search
+passing count s = record { best = s .best; allowance = s .allowance - count }

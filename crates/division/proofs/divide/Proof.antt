@@ -52,6 +52,7 @@ divide-shared-requires c κs =
     let (counts, enough) = shared-within c in
     record {
       counts = counts;
+      enough = enough;
       own-shares = own .ensures .0 ∙ ap shares.outcome (sharingWithin-enough (a .agents) (a .items) (a .table) (a .allowance) enough);
       small-shares = own .ensures .1;
     }

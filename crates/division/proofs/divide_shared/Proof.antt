@@ -1,13 +1,14 @@
 -- `division::divide_shared` meets its contract: what the rounds hand out, its grade, the shares and the cuts are those of the definition.
 -- Assumes nothing.
-use mathlib.Core.Path.{_≡_, ap, ap₂, _∙_}
+use mathlib.Core.Path.{_≡_, ap, ap₂, subst⁻¹, _∙_}
 use mathlib.Core.List.{[]}
 use Prim.Native.Nat.{ℕ, min}
 use native.Mathlib.Omega.{arith}
 use lib.ListN.{getD}
 use borrow.Author.Needs.{needs}
+use Rattle.lists.specs.Lists.{range}
 use Rattle.sheet.specs.Limits.{mostAgents, mostItems}
-use Rattle.sheet.specs.Sets.{itemsOf}
+use Rattle.sheet.specs.Sets.{itemsOf, setOf}
 use Rattle.shares.specs.Shares.{sharing}
 use Rattle.shares.specs.Outcome.{outcome}
 use Rattle.shares.specs.declared.Cut.{Cut}
@@ -16,16 +17,18 @@ use Rattle.grading.specs.Grade.{gradeIn}
 use Rattle.serving.specs.Serving.{agentsIn}
 use Rattle.margins.specs.Terms.{termsFor}
 use Rattle.margins.specs.declared.Terms.{Terms}
-use Rattle.division.specs.internal.Left.{instanceFrom}
-use Rattle.division.specs.internal.Allocation.{allottedAll}
+use Rattle.division.specs.internal.Left.{instanceFrom, Ready}
+use Rattle.division.specs.internal.Allocation.{nothing, allottedAll}
 use Rattle.division.specs.declared.dividing.Allocation.{Allocation}
-use Rattle.division.proofs.rounds.AllRounds.{nothing}
 use Rattle.division.proofs.rounds.Accepted.{upTo-is, allAgents, allItems, ready-all, first-cut, placedSets, placedCutters, allotted-accepted, outcome-accepted}
 use Rattle.division.proofs.divide_shared.Statement.{statement}
 use Rattle.division.proofs.divide_shared.Tie as tie
 
 array-copy-out-first : tie.Need-array-copy-out-first
 array-copy-out-first c = search needs
+
+nothing-handed-out-requires : tie.Need-nothing-handed-out-requires
+nothing-handed-out-requires c κs = search needs
 
 terms-for-requires : tie.Need-terms-for-requires
 terms-for-requires c κs = search needs
@@ -36,31 +39,37 @@ all-items-requires c κs = search needs
 all-items-requires-2 : tie.Need-all-items-requires-2
 all-items-requires-2 c κs = search needs
 
--- the set of all agents, and that of all items
-agents-are : (c : tie.After-all-items) → let s = c .before .before .before .before .before .before in c .all-items .result ≡ allAgents (s .args .agents) (s .args .items) (s .args .table) (s .pre .counts)
-agents-are c =
-    let s = c .before .before .before .before .before .before in
-    c .all-items .ensures ∙ upTo-is (s .args .agents) mostAgents (s .pre .counts .few) (omega arith)
-
-items-are : (c : tie.After-all-items2) → let s = c .before .before .before .before .before .before .before in c .all-items2 .result ≡ allItems (s .args .agents) (s .args .items) (s .args .table) (s .pre .counts)
-items-are c =
-    let s = c .before .before .before .before .before .before .before in
-    c .all-items2 .ensures ∙ upTo-is (s .args .items) mostItems (s .pre .counts .few-items) (omega arith)
+-- the start, before the point where the terms are known
+abbrev start : tie.After-terms-for → tie.Start
+start c = c .before .before .before .before .before .before
 
 -- the terms for the agents
-terms-are : (c : tie.After-terms-for) → c .terms-for .result ≡ termsFor (c .before .before .before .before .before .args .agents)
+terms-are : (c : tie.After-terms-for) → c .terms-for .result ≡ termsFor (start c .args .agents)
 terms-are c =
-    let s = c .before .before .before .before .before in
+    let s = start c in
     let agents : min (s .args .agents) mostAgents ≡ s .args .agents = omega (arith, s .pre .counts .few) in
     c .terms-for .ensures ∙ ap termsFor agents
 
+-- the set of all agents, and that of all items
+agents-are : (c : tie.After-all-items) → let s = start (c .before) in c .all-items .result ≡ allAgents (s .args .agents) (s .args .items) (s .args .table) (s .pre .counts)
+agents-are c =
+    let s = start (c .before) in
+    c .all-items .ensures ∙ upTo-is (s .args .agents) mostAgents (s .pre .counts .few) (omega arith)
+
+items-are : (c : tie.After-all-items2) → let s = start (c .before .before) in c .all-items2 .result ≡ allItems (s .args .agents) (s .args .items) (s .args .table) (s .pre .counts)
+items-are c =
+    let s = start (c .before .before) in
+    c .all-items2 .ensures ∙ upTo-is (s .args .items) mostItems (s .pre .counts .few-items) (omega arith)
+
 divide-left-requires : tie.Need-divide-left-requires
 divide-left-requires c κs =
-    let s = c .before .before .before .before .before .before .before in
+    let at-terms = c .before .before in
+    let s = start at-terms in
     let a = s .args in
     let none : Cut = record { partition = [] } in
-    rw (terms-are (c .before .before), agents-are (c .before), items-are c) (
-      ready-all (a .agents) (a .items) (a .table) (s .pre .counts) (a .own .shares) (s .pre .small-shares),
+    rw (terms-are at-terms, agents-are (c .before), items-are c) (
+      subst⁻¹ (Ready (termsFor (a .agents)) (a .own .shares) (a .allowance) (setOf (range 1 (a .agents))) (setOf (range 1 (a .items)))) (at-terms .before .nothing-handed-out .ensures)
+          (ready-all (a .agents) (a .items) (a .table) (s .pre .counts) (a .allowance) (s .pre .enough) (a .own .shares) (s .pre .small-shares)),
       ap (λ o. getD (o .cuts) 0 none .partition) (s .pre .own-shares) ∙ first-cut (a .agents) (a .items) (a .table) (s .pre .counts) none,
     )
 
@@ -75,17 +84,22 @@ grade-of-requires c κs = search needs
 
 -- what the rounds hand out
 handed : (c : tie.After-divide-left)
-    → let s = c .before .before .before .before .before .before .before .before in
+    → let s = start (c .before .before .before) in
     (c .divide-left .result .bundles ≡ placedSets (s .args .agents) (s .args .items) (s .args .table) (s .pre .counts))
     × (c .divide-left .result .cutters ≡ placedCutters (s .args .agents) (s .args .items) (s .args .table) (s .pre .counts))
 handed c =
-    let s = c .before .before .before .before .before .before .before .before in
+    let at-items = c .before in
+    let at-terms = at-items .before .before in
+    let s = start at-terms in
     let a = s .args in
-    let run : Terms → Outcome → ℕ → ℕ → Allocation = λ terms own left set. allottedAll (instanceFrom terms (a .table) (own .shares)) (agentsIn left) (itemsOf set) nothing in
+    let run : Terms → Outcome → ℕ → ℕ → Allocation → Allocation = λ terms own left set. allottedAll (instanceFrom terms (a .table) (own .shares)) (agentsIn left) (itemsOf set) in
+    let left = at-items .before .all-items .result in
+    let set = at-items .all-items2 .result in
     let out =
     c .divide-left .ensures
-    ∙ ap₂ (λ terms own. run terms own (c .before .before .all-items .result) (c .before .all-items2 .result)) (terms-are (c .before .before .before)) (s .pre .own-shares)
-    ∙ ap₂ (run (termsFor (a .agents)) (outcome (sharing (a .agents) (a .items) (a .table)))) (agents-are (c .before .before)) (items-are (c .before)) in
+    ∙ ap (run (at-terms .terms-for .result) (a .own) left set) (at-terms .before .nothing-handed-out .ensures)
+    ∙ ap₂ (λ terms own. run terms own left set nothing) (terms-are at-terms) (s .pre .own-shares)
+    ∙ ap₂ (λ left set. run (termsFor (a .agents)) (outcome (sharing (a .agents) (a .items) (a .table))) left set nothing) (agents-are (at-items .before)) (items-are at-items) in
     let accepted = allotted-accepted (a .agents) (a .items) (a .table) (s .pre .counts) in
     (ap (λ r. r .bundles) out ∙ accepted .0, ap (λ r. r .cutters) out ∙ accepted .1)
 
@@ -94,7 +108,7 @@ returns c =
     let margined = c .before in
     let valued = margined .before in
     let at-handed = valued .before .before .before in
-    let s = at-handed .before .before .before .before .before .before .before .before in
+    let s = start (at-handed .before .before .before) in
     let a = s .args in
     outcome-accepted (a .agents) (a .items) (a .table) (s .pre .counts) (c .grade-of .result) (at-handed .divide-left .result .bundles) (at-handed .divide-left .result .cutters) (valued .worths-of .result) (a .own)
     (c .grade-of .ensures ∙ ap (λ margins. gradeIn (a .agents) (a .items) (a .table) (a .own .shares) margins (at-handed .divide-left .result .bundles)) (margined .margins-of .ensures))
@@ -105,6 +119,7 @@ divide-shared-spec =
     tie.close
     (tie.spec
     array-copy-out-first
+    nothing-handed-out-requires
     terms-for-requires
     all-items-requires
     all-items-requires-2

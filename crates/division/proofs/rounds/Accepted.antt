@@ -17,6 +17,7 @@ use Rattle.sheet.specs.Tables.{valuation, allValues, profile}
 use Rattle.sheet.specs.Amounts.{SmallAmounts}
 use Rattle.sheet.proofs.sets.Sets.{items-setOf}
 use Rattle.sheet.proofs.sets.Ranges.{setOf-below}
+use Rattle.growth.specs.Growth.{growths}
 use Rattle.cut.specs.Share.{maximinShare, maximinPartition}
 use Rattle.cut.specs.Outcome.{placed}
 use Rattle.shares.specs.Shares.{sharing}
@@ -38,11 +39,11 @@ use Rattle.rounds.proofs.density.Terms.{termsFor-allowed}
 use Rattle.rounds.proofs.Allocation.{sound, allocation-sublist}
 use Rattle.division.specs.Outcome.{outcome}
 use Rattle.division.specs.internal.Left.{cutByLowest, Ready}
-use Rattle.division.specs.internal.Allocation.{allottedAll}
+use Rattle.division.specs.internal.Allocation.{nothing, allottedAll}
 use Rattle.division.specs.declared.Answer.the-variants.{Divided}
 use Rattle.division.proofs.Outcomes.{items-setOf-bundle}
 use Rattle.division.proofs.rounds.SameRounds.{placedInstance, rounds-standard}
-use Rattle.division.proofs.rounds.AllRounds.{nothing, getD-setOf, allotted-bundles, allotted-cutters-all}
+use Rattle.division.proofs.rounds.AllRounds.{getD-setOf, allotted-bundles, allotted-cutters-all}
 
 -- what holds of [] and of each member holds in each place
 getD-holds : (P : List ℕ → Type 0) → P [] → (bundles : List (List ℕ)) → ((b : List ℕ) → Mem b bundles → P b) → (i : ℕ) → P (getD bundles i [])
@@ -78,9 +79,10 @@ module _ (n m : ℕ) (table : List (List ℕ)) (counts : CountsWithin n m) where
   itemsOf-all = upTo-items m mostItems (counts .few-items) (omega arith)
 
   -- the rounds of all agents and all items may start
-  pub ready-all : (shares : List ℕ) → SmallAmounts shares → Ready (termsFor n) shares allAgents allItems nothing
+  pub ready-all : (allowance : ℕ) → growths n m ≤ allowance → (shares : List ℕ) → SmallAmounts shares
+      → Ready (termsFor n) shares allowance allAgents allItems nothing
   unfolding termsFor largestOdd
-  ready-all shares small =
+  ready-all allowance enough shares small =
       record {
         small-terms = record { small-top = omega (arith, counts .few); small-bottom = omega (arith, counts .few) };
         small-shares = small;
@@ -90,6 +92,7 @@ module _ (n m : ℕ) (table : List (List ℕ)) (counts : CountsWithin n m) where
               some-left = omega (arith, ap length agentsIn-all, length-range 1 n, counts .some);
               small-set = upTo-below m mostItems (counts .few-items) (omega arith);
             };
+        enough = rw (agentsIn-all, itemsOf-all, length-range 1 n, length-range 1 m) enough;
         places = omega (arith, ap length agentsIn-all, length-range 1 n, counts .few);
       }
 

@@ -19,7 +19,7 @@ use Rattle.lists.proofs.members.Distinct.{mem-elem, elem-mem, not-mem-elem}
 use Rattle.sheet.specs.Limits.{mostAgents}
 use Rattle.sheet.specs.Sets.{setOf}
 use Rattle.rounds.specs.Round.{Instance, Round, suits, round, rounds, given, held}
-use Rattle.division.specs.internal.Allocation.{withRound, allotted}
+use Rattle.division.specs.internal.Allocation.{nothing, withRound, allotted}
 use Rattle.division.specs.declared.dividing.Allocation.{Allocation}
 use Rattle.rounds.proofs.round.Rounds.{rounds-few}
 use Rattle.rounds.proofs.round.Held.{given-later, allSuit-length}
@@ -105,10 +105,6 @@ pub getD-setOf : (bundles : List (List ℕ)) (k i : ℕ) → getD (map setOf bun
 getD-setOf [] k i = getD-zeros k i
 getD-setOf (b ∷ bundles) k zero = refl
 getD-setOf (b ∷ bundles) k (suc i) = getD-setOf bundles k i
-
--- nothing is handed out
-abbrev pub nothing : Allocation
-nothing = record { bundles = zeros mostAgents; cutters = zeros mostAgents; rounds = 0 }
 
 module _ {N M : ℕ} {G : Instance} (sound : Sound N M G) (few : N ≤ mostAgents) where
   abbrev rs : List Round

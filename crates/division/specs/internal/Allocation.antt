@@ -2,9 +2,15 @@
 use mathlib.Core.List.{List, [], _∷_, map}
 use Prim.Native.Nat.{ℕ, _+_, _-_}
 use lib.ListN.{length, getD, drop, set}
+use Rattle.lists.specs.Lists.{zeros}
+use Rattle.sheet.specs.Limits.{mostAgents}
 use Rattle.sheet.specs.Sets.{setOf}
 use Rattle.rounds.specs.Round.{Instance, Round, rounds}
 use Rattle.division.specs.declared.dividing.Allocation.{Allocation}
+
+-- nothing is handed out
+abbrev pub nothing : Allocation
+nothing = record { bundles = zeros mostAgents; cutters = zeros mostAgents; rounds = 0 }
 
 -- the places with the set of each agent served in its place, and 0 where the sets are too few
 abbrev pub stored : List ℕ → List ℕ → List ℕ → List ℕ

@@ -3,9 +3,11 @@ use mathlib.Core.List.{List, map}
 use Prim.Native.Nat.{ℕ, _+_, _≤_, _<_, _^_}
 use lib.ListN.{length}
 use Rattle.sheet.specs.Limits.{mostAgents, mostItems}
+use Rattle.sheet.specs.Sets.{itemsOf}
 use Rattle.sheet.specs.Valuations.{itemValue}
 use Rattle.sheet.specs.Tables.{valuation}
 use Rattle.sheet.specs.Amounts.{SmallAmounts}
+use Rattle.growth.specs.Growth.{growths}
 use Rattle.cut.specs.Share.{maximinPartition}
 use Rattle.matching.specs.Matching.{cutterOf}
 use Rattle.serving.specs.Serving.{agentsIn}
@@ -28,9 +30,14 @@ pub record Cuttable (left set : ℕ) : Type 0 where
   pub some-left : 1 ≤ length (agentsIn left)
   pub small-set : set < 2 ^ mostItems
 
--- where the rounds may start: what they are handed is small enough, and there is a place for each round
-pub record Ready (terms : Terms) (shares : List ℕ) (left set : ℕ) (a : Allocation) : Type 0 where
+-- the allowance does not stop the cut of the items left into as many bundles as there are agents left
+abbrev pub EnoughFor : ℕ → ℕ → ℕ → Type 0
+EnoughFor allowance left set = growths (length (agentsIn left)) (length (itemsOf set)) ≤ allowance
+
+-- where the rounds may start: what they are handed is small enough, no cut is stopped, and there is a place for each round
+pub record Ready (terms : Terms) (shares : List ℕ) (allowance left set : ℕ) (a : Allocation) : Type 0 where
   pub small-terms : SmallTerms terms
   pub small-shares : SmallAmounts shares
   pub cuttable : Cuttable left set
+  pub enough : EnoughFor allowance left set
   pub places : a .rounds + length (agentsIn left) ≤ mostAgents

@@ -23,19 +23,19 @@ tested : (c : tie.After-shares-covered) (b : Bool) → c .shares-covered .result
 tested c b e =
     let s = c .before .before .before in
     let a = s .args in
-    let w = s .pre in
+    let w = s .pre .0 in
     sharing-counts-within (a .agents) (a .items) (a .table) (within-both mostAgents (a .agents) (w .some) (w .few)) (within-both mostItems (a .items) (w .some-items) (w .few-items))
     ∙ ap (λ t. require 9 t (accepted (map (cuttingOf (a .agents)) (profile (a .agents) (a .items) (a .table))))) (sym (c .shares-covered .ensures) ∙ e)
 
 own-cuts-requires : tie.Need-own-cuts-requires
-own-cuts-requires c κs = search needs
+own-cuts-requires c κs = (counts-in-use (c .pre .0), c .pre .1)
 
 shares-covered-requires : tie.Need-shares-covered-requires
 shares-covered-requires c κs =
     let s = c .before .before in
     let a = s .args in
     record {
-      in-use = counts-in-use (s .pre);
+      in-use = counts-in-use (s .pre .0);
       small = c .before .own-cuts .ensures .1;
       each = ap (λ o. o .shares) (c .before .own-cuts .ensures .0 ∙ outcome-each (a .agents) (a .items) (a .table));
     }

@@ -23,10 +23,10 @@ use Rattle.shares.proofs.own_cuts.Statement.{statement}
 use Rattle.shares.proofs.own_cuts.Tie as tie
 
 abbrev Inv-loop : tie.InvT-loop
-Inv-loop agents items table shares₀ cuts₀ i₀ shares cuts i = (i ≤ agents) × (shares ≡ padded mostAgents 0 (map (shareOf agents items table) (range 1 i))) × (cuts ≡ padded mostAgents blankCut (map (cutAt agents items table) (range 1 i))) × SmallAmounts shares
+Inv-loop agents items allowance table shares₀ cuts₀ i₀ shares cuts i = (i ≤ agents) × (shares ≡ padded mostAgents 0 (map (shareOf agents items table) (range 1 i))) × (cuts ≡ padded mostAgents blankCut (map (cutAt agents items table) (range 1 i))) × SmallAmounts shares
 
 abbrev μ-loop : tie.MeasureT-loop
-μ-loop agents items table shares₀ cuts₀ i₀ shares cuts i = agents - i
+μ-loop agents items allowance table shares₀ cuts₀ i₀ shares cuts i = agents - i
 
 -- the head of the loop, before a point of its body
 abbrev head : tie.After-own-cut Inv-loop μ-loop → tie.At-loop Inv-loop μ-loop

@@ -42,6 +42,10 @@ counted c =
     let items : min (a .items) mostItems ≡ a .items = omega (arith, w .few-items) in
     c .count .ensures ∙ ap₂ growths agents items
 
+-- the allowance is enough
+enough : (c : tie.Else3) → let a = start (c .before .before) .args in growths (a .agents) (a .items) ≤ a .allowance
+enough c = omega (arith, counted (c .before), c .if3 .left)
+
 is-within-requires : tie.Need-is-within-requires
 is-within-requires c κs = search needs
 
@@ -84,14 +88,13 @@ returns-3 c =
     (c .refuse3 .ensures .0 ∙ ap outcome (sym refused-14), c .refuse3 .ensures .1)
 
 checked-cuts-requires : tie.Need-checked-cuts-requires
-checked-cuts-requires c κs = counts-within (c .before .before)
+checked-cuts-requires c κs = (counts-within (c .before .before), enough c)
 
 returns-4 : tie.Need-returns-4
 returns-4 c =
     let t = c .before .before in
     let a = start (t .before) .args in
-    let enough : growths (a .agents) (a .items) ≤ a .allowance = omega (arith, counted t, c .before .if3 .left) in
-    (c .checked-cuts .ensures .0 ∙ ap outcome (sym (sharingWithin-enough (a .agents) (a .items) (a .table) (a .allowance) enough)), c .checked-cuts .ensures .1)
+    (c .checked-cuts .ensures .0 ∙ ap outcome (sym (sharingWithin-enough (a .agents) (a .items) (a .table) (a .allowance) (enough (c .before)))), c .checked-cuts .ensures .1)
 
 pub share-each-within-spec : {M : Type 1} → statement M
 share-each-within-spec =

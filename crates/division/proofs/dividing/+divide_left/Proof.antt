@@ -13,10 +13,10 @@ use Rattle.sheet.proofs.listing.Listed.{listed-is, count-listed, count-places}
 use Rattle.serving.specs.Serving.{agentsIn}
 use Rattle.rounds.specs.Round.{Instance, Round, round}
 use Rattle.rounds.proofs.round.Parts.{waiting-falls}
-use Rattle.division.specs.internal.Left.{instanceFrom, Cuttable}
+use Rattle.division.specs.internal.Left.{instanceFrom, Cuttable, EnoughFor}
 use Rattle.division.specs.internal.Allocation.{withRound, allottedAll}
 use Rattle.division.specs.declared.dividing.Allocation.{Allocation}
-use Rattle.division.proofs.round.NextRound.{served-within, served-few, agentsIn-next, none-waiting, itemsOf-next, cuttable-next}
+use Rattle.division.proofs.round.NextRound.{served-within, served-few, agentsIn-next, none-waiting, itemsOf-next, enough-next, cuttable-next}
 use Rattle.division.proofs.rounds.Allotted.{stored-zeros, allotted-last, allotted-next}
 use Rattle.division.proofs.dividing.divide_left.Reads as divide-left
 use Rattle.division.proofs.dividing.divide_left.Kinds as divide-left-kinds
@@ -28,7 +28,7 @@ use Rattle.division.proofs.dividing.+divide_left.{statement}
 use Rattle.division.proofs.dividing.+divide_left.Tie.{close}
 
 abbrev μ-divide-left : Measures 0 divide-left-kinds.ps ℕ
-μ-divide-left κs a = length (agentsIn (a .1 .1 .1 .0))
+μ-divide-left κs a = length (agentsIn (a .1 .1 .1 .1 .0))
 
 abbrev divide-left-at : ℕ → In 0 divide-left-kinds.ps
 divide-left-at t = and 0 divide-left-kinds.ps (is 0 divide-left-kinds.ps μ-divide-left t) divide-left.Pre
@@ -128,12 +128,22 @@ module _ (t : ℕ) where
       let s = at-round .before in
       rw (waiting-is at-round, left-is at-round) (cuttable-next (cuttable s) (instance s) (λ none. c .if1 .left (waiting-is at-round ∙ none)))
 
+  -- the allowance is enough for it too
+  next-enough : (c : lts.Else1 (claims t) (divide-left-at t) divide-left.Post)
+      → let at-round = c .before .before .before .before .before .before in
+      EnoughFor (at-round .before .args .allowance) (at-round .settle-round .result .waiting) (at-round .settle-round .result .left)
+  next-enough c =
+      let at-round = c .before .before .before .before .before .before in
+      let s = at-round .before in
+      rw (waiting-is at-round, left-is at-round)
+      (enough-next (cuttable s) (instance s) (s .args .allowance) (λ none. c .if1 .left (waiting-is at-round ∙ none)) (s .pre .1 .0 .enough))
+
   -- the agents of the next round are those who wait
   next-agents : (c : After-round) → agentsIn (c .settle-round .result .waiting) ≡ this-round (c .before) .waiting
   next-agents c = ap agentsIn (waiting-is c) ∙ agentsIn-next (cuttable (c .before)) (instance (c .before))
 
   cut-by-lowest-requires : lts.Need-cut-by-lowest-requires (claims t) (divide-left-at t) divide-left.Post
-  cut-by-lowest-requires c κs = next-cuttable c
+  cut-by-lowest-requires c κs = (next-cuttable c, next-enough c)
 
   divide-left-requires : lts.Need-divide-left-requires (claims t) (divide-left-at t) divide-left.Post
   divide-left-requires c κs =
@@ -149,6 +159,7 @@ module _ (t : ℕ) where
             small-terms = ready .small-terms;
             small-shares = ready .small-shares;
             cuttable = next-cuttable (c .before);
+            enough = next-enough (c .before);
             places = omega (arith, ready .places, next, fewer, ap (λ a. a .rounds) (given-is at-given));
           },
           c .cut-by-lowest .ensures,
