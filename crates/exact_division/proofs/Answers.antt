@@ -4,12 +4,13 @@ use mathlib.Core.Path.{_≡_, sym, _∙_}
 use mathlib.Core.Bool.{Bool}
 use mathlib.Core.Logic.{_⊎_, inl, inr, ⊎-elim}
 use mathlib.Core.List.{List}
-use Prim.Native.Nat.{ℕ}
+use Prim.Native.Nat.{ℕ, _≤_}
 use Rattle.sheet.specs.Limits.{CountsWithin}
 use Rattle.sheet.specs.Answers.{refused, accepted}
 use Rattle.sheet.proofs.Accepted.{refused-not-accepted}
+use Rattle.sheet.proofs.Refusals.{RefusedBelow, below-accepted, below-andThen}
 use Rattle.shares.specs.Shares.{sharing}
-use Rattle.shares.proofs.Refusals.{sharing-within, sharing-cases}
+use Rattle.shares.proofs.Refusals.{sharing-within, sharing-cases, sharing-refusals}
 use Rattle.exact_division.specs.Exact.{exactExists}
 use Rattle.exact_division.specs.Search.{searching}
 
@@ -33,3 +34,8 @@ module _ (n m : ℕ) (table : List (List ℕ)) where
     where
       same : searching n m table ≡ accepted (exactExists n m table) → exactExists n m table ≡ exists
       same e = cc
+
+  -- the search has no allowance: it refuses as the shares are refused, and never with 14
+  pub searching-refusals : (k : ℕ) → 10 ≤ k → RefusedBelow k (searching n m table)
+  unfolding searching
+  searching-refusals k above = below-andThen k (sharing n m table) _ (sharing-refusals n m table k above) (λ _. below-accepted k _)

@@ -3,11 +3,13 @@ use mathlib.Core.Path.{_≡_}
 use mathlib.Core.Bool.{true, false}
 use mathlib.Core.List.{List}
 use mathlib.Core.Option.{Option}
-use Prim.Native.Nat.{ℕ}
+use Prim.Native.Nat.{ℕ, _≤_}
+use native.Mathlib.Omega.{arith}
 use Rattle.sheet.specs.Limits.{CountsWithin}
 use Rattle.sheet.specs.Answers.{refused, accepted}
+use Rattle.sheet.proofs.Refusals.{RefusedBelow, below-accepted, below-require, below-requireSome, below-andThen}
 use Rattle.shares.specs.Shares.{sharing}
-use Rattle.shares.proofs.Refusals.{sharing-within}
+use Rattle.shares.proofs.Refusals.{sharing-within, sharing-refusals}
 use Rattle.grading.specs.Scale.{marginsByTable}
 use Rattle.division_reading.specs.Stated.{Stated}
 use Rattle.judging.specs.Truth.{bundlesOf, eachInOneOfAll, figuresTrue}
@@ -24,6 +26,15 @@ module _ (n m : ℕ) (table : List (List ℕ)) (stated : Option Stated) where
   pub judging-within : CountsWithin n m → judging n m table stated ≡ judgingShared n m table stated
   unfolding judging
   judging-within counts = rw (sharing-within n m table counts)
+
+  -- judging has no allowance: its refusals are those of the shares, 11, 12 and 13, and never 14
+  pub judging-refusals : (k : ℕ) → 14 ≤ k → RefusedBelow k (judging n m table stated)
+  unfolding judging
+  judging-refusals k above =
+      below-andThen k (sharing n m table) _ (sharing-refusals n m table k (omega arith)) (λ shares.
+      below-requireSome k 11 stated _ (omega arith) (λ d.
+      below-require k 12 (eachInOneOfAll m d) _ (omega arith)
+      (below-require k 13 (figuresTrue n m table d) _ (omega arith) (below-accepted k _))))
 
 module _ (n m : ℕ) (table : List (List ℕ)) (d : Stated) where
   pub judged-not-once : eachInOneOfAll m d ≡ false → judgingRead n m table d ≡ refused 12
