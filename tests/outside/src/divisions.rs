@@ -1,6 +1,9 @@
 //! Holds the library's division of a table against the solver: the answer, and every lent place. What
 //! is beyond the counts must not count, and a refusal must store nothing.
 
+mod allowances;
+
+use crate::allowance::ALLOWANCE;
 use crate::division::Division;
 use crate::limits::{counts_to_try, handed_over, Mark, MOST_PIECES, MOST_YARDS};
 use crate::met::Met;
@@ -13,14 +16,31 @@ pub type Table = [[Mark; MOST_PIECES]; MOST_YARDS];
 pub type Piles = [u16; MOST_YARDS];
 pub type Cutters = [u8; MOST_YARDS];
 
-/// Table, yards, pieces, the lent grade, piles as sets and cutters; answers 0 or the refusal's number.
-pub type Entry<'a> = &'a dyn Fn(&Table, usize, usize, &mut u8, &mut Piles, &mut Cutters) -> u8;
+/// What a division is given.
+#[derive(Clone, Copy, Debug)]
+pub struct Given {
+    pub table: Table,
+    pub yards: usize,
+    pub pieces: usize,
+    pub allowance: u32,
+}
 
-/// The refusal's number or 0, and what the lent places hold afterwards.
-type Answer = (u8, u8, Piles, Cutters);
+/// The lent places.
+#[derive(Clone, Copy, Debug, PartialEq)]
+pub struct Places {
+    pub grade: u8,
+    pub piles: Piles,
+    pub cutters: Cutters,
+}
+
+/// Answers 0 or the refusal's number.
+pub type Entry<'a> = &'a dyn Fn(&Given, &mut Places) -> u8;
+
+/// What the entry answers, and what the lent places hold afterwards.
+type Answer = (u8, Places);
 
 /// What the lent places hold before.
-const LENT: Answer = (0, 77, [7_777; MOST_YARDS], [77; MOST_YARDS]);
+const BEFORE: Places = Places { grade: 77, piles: [7_777; MOST_YARDS], cutters: [77; MOST_YARDS] };
 /// The mark of the places beyond the counts.
 const OUTSIDE: Mark = 3_987_654_321;
 
@@ -38,13 +58,21 @@ pub fn run(entry: Entry) -> Result<(), String> {
         println!("random tables, {name}: {}", tables.len());
     }
     println!("counts out of range: {}", check_counts(entry)?);
+    let kinds = allowances::run(entry)?;
     met.print();
-    met.all_met()
+    kinds.print();
+    met.all_met()?;
+    allowances::all_met(&kinds)
 }
 
+/// One table with the allowance of the dividing program.
 fn check(entry: Entry, met: &mut Met, sheet: &Sheet) -> Result<(), String> {
     let division = met.divide(sheet)?;
-    call(entry, &table_of(sheet), sheet.yards, sheet.pieces, due(&division))
+    call(entry, &given(sheet, ALLOWANCE), &due(&division))
+}
+
+fn given(sheet: &Sheet, allowance: u32) -> Given {
+    Given { table: table_of(sheet), yards: sheet.yards, pieces: sheet.pieces, allowance }
 }
 
 /// The table of a sheet as it is handed over.
@@ -63,7 +91,7 @@ pub fn sheet_of(table: &Table, yards: usize, pieces: usize) -> Sheet {
     Sheet::of(rows.map(|row| row.map(|mark| u64::from(*mark)).collect()).collect())
 }
 
-/// Every pair of counts out of range: 4 before 5, and nothing is stored.
+/// Every pair of counts out of range, with several allowances: 4 before 5 before 14, and nothing is stored.
 fn check_counts(entry: Entry) -> Result<usize, String> {
     let table = [[1; MOST_PIECES]; MOST_YARDS];
     let mut calls = 0;
@@ -74,27 +102,23 @@ fn check_counts(entry: Entry) -> Result<usize, String> {
                 (1..=MOST_YARDS, _) => 5,
                 _ => 4,
             };
-            call(entry, &table, yards, pieces, (number, LENT.1, LENT.2, LENT.3))?;
-            calls += 1;
+            for allowance in [0, ALLOWANCE, u32::MAX] {
+                let given = Given { table, yards, pieces, allowance };
+                call(entry, &given, &(number, BEFORE))?;
+                calls += 1;
+            }
         }
     }
     Ok(calls)
 }
 
-fn call(
-    entry: Entry,
-    table: &Table,
-    yards: usize,
-    pieces: usize,
-    due: Answer,
-) -> Result<(), String> {
-    let (_, mut grade, mut piles, mut cutters) = LENT;
-    let number = entry(table, yards, pieces, &mut grade, &mut piles, &mut cutters);
-    match (number, grade, piles, cutters) {
-        came if came == due => Ok(()),
-        came => {
-            Err(format!("{yards} yards, {pieces} pieces, {table:?}\ndue {due:?}\ncame {came:?}"))
-        }
+/// One division, which must be as is due.
+fn call(entry: Entry, given: &Given, due: &Answer) -> Result<(), String> {
+    let mut places = BEFORE;
+    let number = entry(given, &mut places);
+    match (number, places) {
+        came if came == *due => Ok(()),
+        came => Err(format!("{given:?}\ndue {due:?}\ncame {came:?}")),
     }
 }
 
@@ -107,7 +131,7 @@ fn due(division: &Division) -> Answer {
     for (place, cutter) in cutters.iter_mut().zip(&division.cutters) {
         *place = *cutter as u8 + 1;
     }
-    (0, division.grade, piles, cutters)
+    (0, Places { grade: division.grade, piles, cutters })
 }
 
 #[cfg(test)]

@@ -83,10 +83,7 @@ fn all_met(kinds: &Kinds, fewest: usize) -> Result<(), String> {
     let falsified = falsify::KINDS.iter().map(|(name, numbers, _)| (*name, *numbers));
     for (name, numbers) in by_means.chain(falsified) {
         for number in numbers {
-            let met = kinds.times(name, usize::from(*number));
-            if met < fewest {
-                return Err(format!("too rare: {name}, {number}: {met}"));
-            }
+            kinds.often_enough(name, usize::from(*number), fewest)?;
         }
     }
     Ok(())

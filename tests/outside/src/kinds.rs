@@ -34,6 +34,14 @@ impl Kinds {
         }
     }
 
+    /// An error says that this kind was met less often than it must be.
+    pub fn often_enough(&self, name: &str, number: usize, fewest: usize) -> Result<(), String> {
+        match self.times(name, number) {
+            met if met < fewest => Err(format!("too rare: {name}, {number}: {met}")),
+            _ => Ok(()),
+        }
+    }
+
     /// An error names the first kind that is due and was never met.
     pub fn all_met(&self, name: &str, due: impl IntoIterator<Item = usize>) -> Result<(), String> {
         let met = |number: &usize| self.0.get(name).is_some_and(|kinds| kinds.contains_key(number));
@@ -56,6 +64,9 @@ mod tests {
         assert_eq!(kinds.met("refusal"), 3);
         assert_eq!([4, 5, 6].map(|number| kinds.times("refusal", number)), [2, 1, 0]);
         assert_eq!(kinds.times("grade", 4), 0);
+        assert_eq!(kinds.often_enough("refusal", 4, 2), Ok(()));
+        let rare = Err("too rare: refusal, 5: 1".to_owned());
+        assert_eq!(kinds.often_enough("refusal", 5, 2), rare);
         assert_eq!(kinds.all_met("refusal", [4, 5]), Ok(()));
         assert_eq!(kinds.all_met("refusal", 4..=6), Err("never met: refusal 6".to_owned()));
     }

@@ -1,8 +1,10 @@
-//! A solver for document 01, with orders 1 to 5 of document 02, that shares no code with the library it is
+//! A solver for document 01, with orders 1 to 7 of document 02, that shares no code with the library it is
 //! held against, reads by rewriting lines, and finds shares, cuts, waiting sets, servings and exact
-//! divisions by other methods, and judges other people's divisions by lists of their pieces.
+//! divisions by other methods, looks at growth layouts one by one, and judges other people's divisions by
+//! lists of their pieces.
 //! Yards (agents) and pieces (items) are counted from 0 inside, and from 1 in texts.
 
+pub mod allowance;
 pub mod cuts;
 pub mod damage;
 pub mod division;
@@ -11,6 +13,7 @@ pub mod exact;
 pub mod families;
 pub mod generator;
 pub mod grades;
+pub mod growth;
 pub mod harness;
 pub mod judging;
 pub mod kinds;

@@ -37,10 +37,14 @@ pub fn texts<S: Solver>(
 
 /// The samples of document 01, the typed ones, and the text without a byte.
 pub fn samples<S: Solver>(harness: &mut Harness<S>) -> Passed {
+    texts(harness, sample_texts(), 1)
+}
+
+pub fn sample_texts() -> impl Iterator<Item = Vec<u8>> {
     let sheets = SHEETS.iter().map(|(_, text, _)| text.as_bytes().to_vec());
     let typed = TYPED.iter().map(|(_, text, _)| text.as_bytes().to_vec());
     let of_j = texts_of_j().into_iter().map(|(text, _)| text);
-    texts(harness, sheets.chain(typed).chain(of_j).chain([Vec::new()]), 1)
+    sheets.chain(typed).chain(of_j).chain([Vec::new()])
 }
 
 /// The strict texts of the sheets.
@@ -69,12 +73,20 @@ pub fn damaged_from<S: Solver>(
     number: usize,
     source: impl Fn(&mut Generator) -> Vec<u8>,
 ) -> Passed {
+    texts(harness, damaged_texts(kind, number, source), SEVERAL_BUFFERS)
+}
+
+/// So many texts of one kind of damage.
+pub fn damaged_texts(
+    kind: usize,
+    number: usize,
+    source: impl Fn(&mut Generator) -> Vec<u8>,
+) -> impl Iterator<Item = Vec<u8>> {
     let mut generator = Generator::new(1_000 + kind as u64);
-    let damaged = (0..number).map(|_| {
+    (0..number).map(move |_| {
         let text = source(&mut generator);
         damage::KINDS[kind].1(&mut generator, &text)
-    });
-    texts(harness, damaged, SEVERAL_BUFFERS)
+    })
 }
 
 /// Texts of one kind of typing, counted under its name where it altered the text; each must come to

@@ -1,8 +1,11 @@
 //! The comparison of the whole box: samples, all small tables, damaged texts, texts as yards type
-//! them, random tables; and the counts.
+//! them, random tables; texts with several allowances; and the counts.
 
+mod allowances;
+
+use crate::allowance::ALLOWANCE;
 use crate::damage;
-use crate::harness::{Entry, Harness};
+use crate::harness::Harness;
 use crate::met::Met;
 use crate::parts::{self, SEVERAL_BUFFERS};
 use crate::progress::Progress;
@@ -15,10 +18,21 @@ const OF_EACH_TYPING: usize = 1_000;
 /// So many texts of each kind of typing must be met, and of either outcome that it has.
 const FEWEST_TYPED: usize = 50;
 
-/// Prints how many of each were run; an error is the first difference, or a kind that was never met.
+/// Text, allowance, lent buffer and lent length; answers the refusal's number, or 0 with the printed length
+/// stored.
+pub type Entry<'a> = &'a dyn Fn(&[u8], u32, &mut [u8], &mut usize) -> u8;
+
+/// Prints how many of each were run; an error is the first difference, or a kind that was met too rarely.
 pub fn run(entry: Entry) -> Result<(), String> {
     let progress = Progress::start();
-    let mut harness = Harness::<Met>::new(entry);
+    with_the_programs_allowance(entry, &progress)?;
+    allowances::run(entry, &progress)
+}
+
+fn with_the_programs_allowance(entry: Entry, progress: &Progress) -> Result<(), String> {
+    let entry =
+        |text: &[u8], buffer: &mut [u8], length: &mut usize| entry(text, ALLOWANCE, buffer, length);
+    let mut harness = Harness::<Met>::new(&entry);
     progress.passed("sample sheets", parts::samples(&mut harness)?);
     progress.passed("all small tables", parts::sheets(&mut harness, all_small(), 1)?);
     for (name, text) in [("a", SHEET_A), ("a as typed", SHEET_AS_TYPED)] {

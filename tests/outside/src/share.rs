@@ -3,7 +3,7 @@
 //! whose bit k stands for item k. The marks handed in are those of the set's items, rising.
 
 /// The maximin share, and the cut: for each item its bundle, counted from 1.
-#[derive(Debug, PartialEq)]
+#[derive(Clone, Debug, PartialEq)]
 pub struct Cut {
     pub share: u64,
     pub layout: Vec<usize>,
@@ -114,29 +114,13 @@ fn lay((covered, laid): (usize, u64), mark: u64, lacks: &[u64]) -> (usize, u64) 
     }
 }
 
-/// The definition itself, with this for the sum of two worths: every layout in dictionary order, the
-/// first with the greatest least pile.
 #[cfg(test)]
-pub fn by_definition(marks: &[u64], bundles: usize, sum: fn(u64, u64) -> u64) -> Cut {
-    let mut best: Option<Cut> = None;
-    for number in 0..bundles.pow(marks.len() as u32) {
-        let digit = |item: usize| number / bundles.pow((marks.len() - 1 - item) as u32) % bundles;
-        let layout: Vec<usize> = (0..marks.len()).map(|item| digit(item) + 1).collect();
-        let mut worths = vec![0; bundles];
-        for (bundle, mark) in layout.iter().zip(marks) {
-            worths[bundle - 1] = sum(worths[bundle - 1], *mark);
-        }
-        let share = *worths.iter().min().unwrap();
-        if best.as_ref().is_none_or(|cut| share > cut.share) {
-            best = Some(Cut { share, layout });
-        }
-    }
-    best.unwrap()
-}
+pub mod definition;
 
 #[cfg(test)]
 mod tests {
-    use super::{by_definition, can_cover, cut};
+    use super::definition::by_definition;
+    use super::{can_cover, cut};
     use crate::generator::Generator;
 
     #[test]

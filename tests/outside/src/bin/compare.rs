@@ -7,20 +7,22 @@ use outside::verdict::verdict;
 
 #[link(name = "shareout_c", kind = "static")]
 extern "C" {
-    /// Prints the division of the sheet into the buffer. Answers 0 and stores the length printed, or
-    /// answers the refusal's number and stores nothing.
+    /// Prints the division of the sheet into the buffer, if the allowance is enough. Answers 0 and stores
+    /// the length printed, or answers the refusal's number and stores nothing.
     fn shareout_text(
         text: *const u8,
         text_len: usize,
+        allowance: u32,
         buffer: *mut u8,
         buffer_len: usize,
         length: *mut usize,
     ) -> u8;
 }
 
-fn library(text: &[u8], buffer: &mut [u8], length: &mut usize) -> u8 {
+fn library(text: &[u8], allowance: u32, buffer: &mut [u8], length: &mut usize) -> u8 {
+    let (from, to) = (text.as_ptr(), buffer.as_mut_ptr());
     // SAFETY: the pointers are those of two slices, with the slices' lengths, and of one length.
-    unsafe { shareout_text(text.as_ptr(), text.len(), buffer.as_mut_ptr(), buffer.len(), length) }
+    unsafe { shareout_text(from, text.len(), allowance, to, buffer.len(), length) }
 }
 
 fn main() -> ExitCode {

@@ -1,16 +1,18 @@
 //! Wrong cuts, each of which the comparison must find.
 
-use super::{
-    all_met, all_small, due, marks_of, partition_of, random, refused, Answer, Entry, Harness,
-    Kinds, Part, Partition, Row,
-};
+mod allowances;
+
+use super::due::{due, found, marks_of};
+use super::rows::{all_small, random, refused};
+use super::{all_met, Answer, Entry, Given, Harness, Kinds, Part, Places};
+use crate::growth::number;
 use crate::limits::Mark;
-use crate::share::by_definition;
+use crate::share::definition::by_definition;
 use crate::widths::{rows_met, sums_met, WIDE_SHARE};
 
 /// Whether the entry passes these parts, and the kinds met.
 fn run(entry: Entry, parts: &[Part]) -> (bool, Kinds) {
-    let mut harness = Harness { entry, calls: 0, kinds: Kinds::default() };
+    let mut harness = Harness::new(entry);
     let passed = parts.iter().all(|part| part(&mut harness).is_ok());
     (passed, harness.kinds)
 }
@@ -24,19 +26,20 @@ fn random_rows_pass(entry: Entry) -> bool {
 }
 
 /// Stores what the answer has for the lent places.
-fn stored(answer: Answer, share: &mut u64, partition: &mut Partition) -> u8 {
-    (*share, *partition) = (answer.1, answer.2);
+fn stored(answer: Answer, places: &mut Places) -> u8 {
+    *places = answer.1;
     answer.0
 }
 
+/// What a wrong library makes of the right answer.
+type Change = fn(&mut Answer, &Given);
+
 /// Answers as the library should, but for this change.
-fn changed(
-    change: fn(&mut Answer, usize),
-) -> impl Fn(&Row, u16, usize, &mut u64, &mut Partition) -> u8 {
-    move |row, set, piles, share, partition| {
-        let mut answer = due(row, set, piles);
-        change(&mut answer, piles);
-        stored(answer, share, partition)
+fn changed(change: Change) -> impl Fn(&Given, &mut Places) -> u8 {
+    move |given, places| {
+        let mut answer = due(given);
+        change(&mut answer, given);
+        stored(answer, places)
     }
 }
 
@@ -55,13 +58,15 @@ fn right_answers_pass_and_random_rows_meet_wide_marks() {
 
 #[test]
 fn wrong_answers_are_found() {
-    let wrong: [fn(&mut Answer, usize); 6] = [
+    let wrong: [Change; 8] = [
         |answer, _| answer.0 = if answer.0 == 5 { 4 } else { answer.0 },
-        |answer, piles| answer.0 = if piles == 258 { 0 } else { answer.0 },
-        |answer, _| answer.1 += u64::from(answer.0 == 0 && answer.1 == 3),
-        |answer, _| answer.1 = if answer.0 == 4 { 0 } else { answer.1 },
-        |answer, _| answer.2[11] = if answer.0 == 0 { 1 } else { answer.2[11] },
-        |answer, _| answer.2[1..3].reverse(),
+        |answer, given| answer.0 = if given.piles == 258 { 0 } else { answer.0 },
+        |answer, _| answer.1.figure += u64::from(answer.0 == 0 && answer.1.figure == 3),
+        |answer, _| answer.1.figure = if answer.0 == 4 { 0 } else { answer.1.figure },
+        |answer, _| answer.1.partition[11] = if answer.0 == 0 { 1 } else { 77 },
+        |answer, _| answer.1.partition[1..3].reverse(),
+        |answer, _| answer.1.count = if answer.0 == 5 { 0 } else { answer.1.count },
+        |answer, given| answer.1.count += u32::from(answer.0 == 0 && given.set == 0),
     ];
     for (number, change) in wrong.into_iter().enumerate() {
         assert!(!passes(&changed(change)), "{number}");
@@ -81,8 +86,8 @@ const NARROW_MARKS: [Narrowed; 4] = [
 #[test]
 fn narrow_marks_are_found() {
     for (name, kept) in NARROW_MARKS {
-        let entry = |row: &Row, set, piles, share: &mut u64, partition: &mut Partition| {
-            stored(due(&row.map(kept), set, piles), share, partition)
+        let entry = |given: &Given, places: &mut Places| {
+            stored(due(&Given { row: given.row.map(kept), ..*given }), places)
         };
         assert!(!random_rows_pass(&entry), "{name}");
     }
@@ -90,7 +95,8 @@ fn narrow_marks_are_found() {
 
 #[test]
 fn a_narrow_share_is_found() {
-    assert!(!random_rows_pass(&changed(|answer, _| answer.1 &= u64::from(u32::MAX))));
+    let narrow = changed(|answer, _| answer.1.figure &= u64::from(u32::MAX));
+    assert!(!random_rows_pass(&narrow));
 }
 
 #[test]
@@ -99,18 +105,17 @@ fn narrow_sums_are_found() {
         |worth, mark| (worth + mark) & u64::from(u32::MAX),
         |worth, mark| (worth + mark).min(u64::from(u32::MAX)),
     ];
-    for (number, sum) in sums.into_iter().enumerate() {
-        let entry = |row: &Row, set, piles, share: &mut u64, partition: &mut Partition| {
-            let marks = marks_of(row, set);
+    for sum in sums {
+        let entry = |given: &Given, places: &mut Places| {
+            let marks = marks_of(&given.row, given.set);
             let answer = match marks.len() {
-                0..=5 => {
-                    let cut = by_definition(&marks, piles, sum);
-                    (0, cut.share, partition_of(&cut.layout))
+                items @ 0..=5 => {
+                    found(&by_definition(&marks, given.piles, sum), number(items, given.piles))
                 }
-                _ => due(row, set, piles),
+                _ => due(given),
             };
-            stored(answer, share, partition)
+            stored(answer, places)
         };
-        assert!(!random_rows_pass(&entry), "{number}");
+        assert!(!random_rows_pass(&entry));
     }
 }

@@ -110,7 +110,8 @@ mod tests {
     use crate::families::FAMILIES;
     use crate::generator::Generator;
     use crate::reader::Sheet;
-    use crate::share::{by_definition, maximin_share};
+    use crate::share::definition::by_definition;
+    use crate::share::maximin_share;
     use crate::tables::{all_small, of_family};
 
     fn shares(sheet: &Sheet) -> Vec<u64> {

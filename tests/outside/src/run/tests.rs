@@ -1,5 +1,7 @@
 //! Wrong boxes that print sums kept in too few bits, each of which the comparison must find.
 
+mod allowances;
+
 use super::{parts, Harness, Met};
 use crate::damage::renumbered;
 use crate::families::FAMILIES;

@@ -1,8 +1,8 @@
 //! Divisions by marks, shares and worths that are kept in too few bits.
 
-use super::Entry;
+use super::{sheet_given, Entry};
 use crate::division::{divide, divide_by, worth, Division};
-use crate::divisions::{check, due, sheet_of};
+use crate::divisions::{check, due};
 use crate::families::FAMILIES;
 use crate::grades::{grade, tests};
 use crate::met::Met;
@@ -18,9 +18,9 @@ fn random_tables_pass(divide: Divide) -> bool {
     let mut met = Met::default();
     let mut tables = (0..FAMILIES.len()).flat_map(|family| of_family(family, 1));
     tables.all(|sheet| {
-        let entry: Entry = &|table, yards, pieces, grade, piles, cutters| {
-            let answer = due(&divide(&sheet_of(table, yards, pieces)));
-            (*grade, *piles, *cutters) = (answer.1, answer.2, answer.3);
+        let entry: Entry = &|given, places| {
+            let answer = due(&divide(&sheet_given(given)));
+            *places = answer.1;
             answer.0
         };
         check(entry, &mut met, &sheet).is_ok()
