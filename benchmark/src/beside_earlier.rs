@@ -24,23 +24,16 @@ pub fn print_tables() {
 /// A function of a library, given the place of the entry.
 type Placed<'a, Input, Answer> = &'a dyn Fn(usize, &Input) -> Answer;
 
-/// The columns of the earlier library and of today's, and today's time divided by the earlier one's.
+/// The columns of the earlier library and of today's, means over the places, and today's time divided by the
+/// earlier one's. All answers to an input must be the same.
 fn compare<Input: Debug, Answer: Debug + PartialEq>(
     inputs: &[Input],
     earlier: Placed<Input, Answer>,
     today: Placed<Input, Answer>,
 ) -> String {
-    let [earlier, today] = microseconds(inputs, [earlier, today]);
-    format!("{earlier:.2} | {today:.2} | {:.2}", today / earlier)
-}
-
-/// The time of each function, mean over the places. All answers to an input must be the same.
-fn microseconds<Input: Debug, Answer: Debug + PartialEq, const FUNCTIONS: usize>(
-    inputs: &[Input],
-    functions: [Placed<Input, Answer>; FUNCTIONS],
-) -> [f64; FUNCTIONS] {
-    let at = |k: usize| move |input: &Input| functions[k / PLACES](k % PLACES, input);
-    let placed: Vec<_> = (0..FUNCTIONS * PLACES).map(at).collect();
+    let libraries = [earlier, today];
+    let at = |k: usize| move |input: &Input| libraries[k / PLACES](k % PLACES, input);
+    let placed: Vec<_> = (0..libraries.len() * PLACES).map(at).collect();
     let placed: Vec<&dyn Fn(&Input) -> Answer> = placed.iter().map(|f| f as _).collect();
     let timed = time_within(ENOUGH, inputs, &placed);
     for (number, input) in inputs.iter().enumerate() {
@@ -49,5 +42,6 @@ fn microseconds<Input: Debug, Answer: Debug + PartialEq, const FUNCTIONS: usize>
         }
     }
     let sum = |k: usize| timed[k * PLACES..][..PLACES].iter().map(|t| t.mean()).sum::<f64>();
-    std::array::from_fn(|k| sum(k) / PLACES as f64)
+    let [earlier, today] = [0, 1].map(|k| sum(k) / PLACES as f64);
+    format!("{earlier:.2} | {today:.2} | {:.2}", today / earlier)
 }

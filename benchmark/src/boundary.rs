@@ -1,4 +1,4 @@
-//! How the library's C entries are called, whatever type `M` a mark has.
+//! How the library's C entries are called.
 
 mod cutting;
 #[cfg(feature = "division")]
@@ -8,14 +8,14 @@ mod searching;
 #[cfg(feature = "earlier")]
 mod writing;
 
-pub use cutting::cut;
+pub use cutting::estimate;
 #[cfg(feature = "earlier")]
 pub use cutting::CutRow;
 #[cfg(feature = "division")]
 pub use dividing::divide;
 #[cfg(feature = "earlier")]
-pub use dividing::DivideTable;
+pub use dividing::{divided, DivideTable};
 #[cfg(feature = "exact")]
 pub use searching::search;
 #[cfg(feature = "earlier")]
-pub use writing::{write, WriteText, Written};
+pub use writing::{share_out, write, ShareOut, WriteText, Written};

@@ -1,7 +1,7 @@
 //! The library's entries over their C boundary.
 
 use crate::boundary;
-use crate::cut::{Cut, Mark, Row};
+use crate::cut::{Estimate, Mark, Row};
 #[cfg(feature = "division")]
 use crate::division::{Division, Table};
 #[cfg(feature = "exact")]
@@ -13,15 +13,17 @@ extern "C" {
         marks: *const Mark,
         set: u16,
         bundles: usize,
-        share: *mut u64,
+        allowance: u32,
+        figure: *mut u64,
         partition: *mut u8,
+        count: *mut u32,
     ) -> u8;
 }
 
 /// Cuts all twelve pieces.
-pub fn cut(row: &Row, bundles: usize) -> Cut {
+pub fn estimate(row: &Row, bundles: usize, allowance: u32) -> Estimate {
     // SAFETY: the entry cuts a row of twelve marks.
-    unsafe { boundary::cut(cut_row, row, bundles) }
+    unsafe { boundary::estimate(cut_row, row, bundles, allowance) }
 }
 
 #[cfg(feature = "division")]
@@ -31,6 +33,7 @@ extern "C" {
         marks: *const Mark,
         agents: usize,
         items: usize,
+        allowance: u32,
         grade: *mut u8,
         bundles: *mut u16,
         cutters: *mut u8,

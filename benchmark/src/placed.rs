@@ -2,21 +2,18 @@
 //! up to a fifth more time when it begins at another number of bytes after a multiple of 64, and a linker
 //! leaves that number to chance. So both libraries are timed at 0, 16, 32 and 48, and the mean counts.
 
-use std::fmt::Debug;
-
-use crate::boundary::{self, CutRow, DivideTable, WriteText, Written};
-use crate::cut::{Cut, Mark, MOST_ITEMS};
-use crate::division::{Division, MOST_AGENTS};
-use crate::earlier::EarlierMark;
+use crate::boundary::{self, CutRow, DivideTable, ShareOut, WriteText, Written};
+use crate::cut::{Cut, Mark, Row, GREATEST_ALLOWANCE};
+use crate::division::{Division, Table};
 
 pub const PLACES: usize = 4;
 
-/// Each entry of a library at the four places.
-pub struct Library<M> {
-    cut_row: [CutRow<M>; PLACES],
-    divide_table: [DivideTable<M>; PLACES],
-    shareout_text: [WriteText; PLACES],
-    strict_text: [WriteText; PLACES],
+/// Each entry of a library at the four places; the types are those of the three that have an allowance today.
+pub struct Library<C, D, S> {
+    pub cut_row: [C; PLACES],
+    pub divide_table: [D; PLACES],
+    pub shareout_text: [S; PLACES],
+    pub strict_text: [WriteText; PLACES],
 }
 
 /// An entry at the four places, by the prefix of its name, its name and the types of what it is given.
@@ -36,33 +33,27 @@ macro_rules! placed {
     }};
 }
 
-/// A library by the prefix of its names and the type of its marks.
-macro_rules! library {
-    ($prefix:literal, $mark:ty) => {
-        Library {
-            cut_row: placed!($prefix "cut_row" (*const $mark, u16, usize, *mut u64, *mut u8)),
-            divide_table: placed!($prefix "divide_table"
-                (*const $mark, usize, usize, *mut u8, *mut u16, *mut u8)),
-            shareout_text: placed!($prefix "shareout_text"
-                (*const u8, usize, *mut u8, usize, *mut usize)),
-            strict_text: placed!($prefix "strict_text"
-                (*const u8, usize, *mut u8, usize, *mut usize)),
-        }
-    };
-}
+pub(crate) use placed;
 
-pub const TODAY: Library<Mark> = library!("", Mark);
-pub const EARLIER: Library<EarlierMark> = library!("earlier_", EarlierMark);
+pub const TODAY: Library<CutRow, DivideTable, ShareOut> = Library {
+    cut_row: placed!("" "cut_row"
+        (*const Mark, u16, usize, u32, *mut u64, *mut u8, *mut u32)),
+    divide_table: placed!("" "divide_table"
+        (*const Mark, usize, usize, u32, *mut u8, *mut u16, *mut u8)),
+    shareout_text: placed!("" "shareout_text"
+        (*const u8, usize, u32, *mut u8, usize, *mut usize)),
+    strict_text: placed!("" "strict_text" (*const u8, usize, *mut u8, usize, *mut usize)),
+};
 
-impl<M: Debug> Library<M> {
+impl Library<CutRow, DivideTable, ShareOut> {
     /// Cuts all twelve pieces.
-    pub fn cut(&self, place: usize, row: &[M; MOST_ITEMS], bundles: usize) -> Cut {
+    pub fn cut(&self, place: usize, row: &Row, bundles: usize) -> Cut {
         // SAFETY: the entry cuts a row of twelve marks.
-        unsafe { boundary::cut(self.cut_row[place], row, bundles) }
+        unsafe { boundary::estimate(self.cut_row[place], row, bundles, GREATEST_ALLOWANCE) }.best
     }
 
     /// Divides a full table.
-    pub fn divide(&self, place: usize, table: &[[M; MOST_ITEMS]; MOST_AGENTS]) -> Division {
+    pub fn divide(&self, place: usize, table: &Table) -> Division {
         // SAFETY: the entry divides a table of 72 marks.
         unsafe { boundary::divide(self.divide_table[place], table) }
     }
@@ -70,9 +61,11 @@ impl<M: Debug> Library<M> {
     /// Prints the division of the sheet that a text holds.
     pub fn share_out(&self, place: usize, text: &str, buffer: &mut [u8]) -> Written {
         // SAFETY: the entry reads a text and fills a lent buffer.
-        unsafe { boundary::write(self.shareout_text[place], text, buffer) }
+        unsafe { boundary::share_out(self.shareout_text[place], text, buffer) }
     }
+}
 
+impl<C, D, S> Library<C, D, S> {
     /// Writes the strict text of the sheet that a text holds.
     pub fn write_strict(&self, place: usize, text: &str, buffer: &mut [u8]) -> Written {
         // SAFETY: the entry reads a text and fills a lent buffer.

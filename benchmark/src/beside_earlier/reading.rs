@@ -1,14 +1,13 @@
-//! The table of texts: reading alone, reading and writing, and reading, dividing and printing. Texts that
-//! the earlier library cannot be given are timed with today's alone.
+//! The table of texts: reading alone, reading and writing, and reading, dividing and printing.
 
 use std::cell::RefCell;
 
-use super::{compare, microseconds};
+use super::compare;
 use crate::boundary::Written;
 use crate::division::Table;
-use crate::earlier::fit;
+use crate::earlier::EARLIER;
 use crate::families::{tables, FAMILIES, ROWS};
-use crate::placed::{EARLIER, PLACES, TODAY};
+use crate::placed::{PLACES, TODAY};
 use crate::texts;
 
 /// As long as the longest text that is read.
@@ -73,10 +72,6 @@ fn columns(work: &Work, tables: &[Table]) -> String {
     let [earlier, today] = [work.earlier, work.today]
         .map(|entry| move |place, text: &String| entry(place, text, &mut *buffer.borrow_mut()));
     check(work.today, &texts, &due);
-    if !fit(tables.as_flattened()) {
-        let [today] = microseconds(&texts, [&today]);
-        return format!("| {today:.2} |");
-    }
     check(work.earlier, &texts, &due);
     compare(&texts, &earlier, &today)
 }

@@ -1,35 +1,30 @@
 //! Calls an entry that divides a table.
 
-use std::fmt::Debug;
+use crate::cut::{Mark, GREATEST_ALLOWANCE};
+use crate::division::{Division, Table, MOST_AGENTS};
 
-use crate::cut::MOST_ITEMS;
-use crate::division::{Division, MOST_AGENTS};
+/// 72 marks row by row, the counts and the allowance; writes the grade, each yard's pile as a set of pieces
+/// and the cutters from 1. Answers 0 or the refusal's number.
+pub type DivideTable =
+    unsafe extern "C" fn(*const Mark, usize, usize, u32, *mut u8, *mut u16, *mut u8) -> u8;
 
-/// 72 marks row by row and the counts; writes the grade, each yard's pile as a set of pieces and the
-/// cutters from 1. Answers 0 or the refusal's number.
-pub type DivideTable<M> =
-    unsafe extern "C" fn(*const M, usize, usize, *mut u8, *mut u16, *mut u8) -> u8;
-
-/// Divides a full table; the places of the cutters after the last round stay 0.
+/// Divides a full table.
 ///
 /// # Safety
 /// The entry is as `DivideTable` says.
-pub unsafe fn divide<M: Debug>(
-    entry: DivideTable<M>,
-    table: &[[M; MOST_ITEMS]; MOST_AGENTS],
-) -> Division {
+pub unsafe fn divide(entry: DivideTable, table: &Table) -> Division {
+    divided(table, |marks, Division { grade, bundles, cutters }| {
+        let (agents, items) = (table.len(), table[0].len());
+        let (bundles, cutters) = (bundles.as_mut_ptr(), cutters.as_mut_ptr());
+        // SAFETY: the pointers are those of 72 marks in a row, one grade, six sets and six places.
+        unsafe { entry(marks, agents, items, GREATEST_ALLOWANCE, grade, bundles, cutters) }
+    })
+}
+
+/// What a call stores of a full table's division; the places of the cutters after the last round stay 0.
+pub fn divided(table: &Table, call: impl FnOnce(*const Mark, &mut Division) -> u8) -> Division {
     let mut division = Division { grade: 0, bundles: [0; MOST_AGENTS], cutters: [0; MOST_AGENTS] };
-    // SAFETY: the pointers are those of 72 marks in a row, one grade, six sets and six places.
-    let refusal = unsafe {
-        entry(
-            table.as_flattened().as_ptr(),
-            table.len(),
-            table[0].len(),
-            &mut division.grade,
-            division.bundles.as_mut_ptr(),
-            division.cutters.as_mut_ptr(),
-        )
-    };
+    let refusal = call(table.as_flattened().as_ptr(), &mut division);
     assert_eq!(refusal, 0, "the library refuses {table:?}");
     division
 }
