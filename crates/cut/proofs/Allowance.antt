@@ -14,14 +14,14 @@ use Rattle.lists.specs.Dictionary.{greatest, firstBest}
 use Rattle.lists.proofs.Cases.{lt-or-ge}
 use Rattle.lists.proofs.dictionary.First.{greatest-take}
 use Rattle.sheet.specs.Limits.{mostAgents, mostItems, within}
-use Rattle.sheet.specs.Answers.{Answer, refused, accepted, require}
+use Rattle.sheet.specs.Answers.{Answer, accepted, require}
 use Rattle.sheet.specs.Valuations.{valuesOf}
 use Rattle.sheet.proofs.Limits.{within-bounds}
 use Rattle.sheet.proofs.sets.Ranges.{names-only-below}
 use Rattle.growth.specs.Growth.{growthPartitions, growths}
 use Rattle.growth.proofs.Growths.{growths-positive}
 use Rattle.cut.specs.Share.{leastBundle, maximinShare, maximinPartition}
-use Rattle.cut.specs.Outcome.{Found, shared, stopped, wholeCut, lookedAt, stoppedCut, found, namesItems, cutting}
+use Rattle.cut.specs.Outcome.{Found, wholeCut, lookedAt, stoppedCut, found, namesItems, cutting, leastFound, leastAnswered}
 use Rattle.cut.proofs.growth.Share as growth
 
 module _ (n : ℕ) (values : List ℕ) where
@@ -56,17 +56,7 @@ module _ (n : ℕ) (values : List ℕ) where
       pub firstBest-looked-at : firstBest (leastBundle n values) (lookedAt n values allowance) ≡ maximinPartition n values
       firstBest-looked-at = ap (firstBest (leastBundle n values)) (looked-at-all enough) ∙ firstBest-growth some
 
--- the least bundle that is found, stopped or not
-abbrev pub leastFound : Found → ℕ
-leastFound (shared share partition count) = share
-leastFound (stopped least partition count) = least
-
--- the same of an answer, 0 where the cut is refused
-abbrev pub leastAnswered : Answer Found → ℕ
-leastAnswered (refused number) = 0
-leastAnswered (accepted result) = leastFound result
-
--- it is the best of the growth partitions that the allowance reaches
+-- the least bundle that is found, stopped or not, is the best of the growth partitions that the allowance reaches
 leastFound-greatest : (n : ℕ) (values : List ℕ) (allowance : ℕ) → 1 ≤ n
     → leastFound (found n values allowance) ≡ greatest (leastBundle n values) (lookedAt n values allowance)
 leastFound-greatest n values allowance some =

@@ -62,6 +62,16 @@ cutting valuation set bundles allowance =
     (require 14 (leb 1 allowance)
     (accepted (found bundles (valuesOf valuation set) allowance))))
 
+-- "least pile", of which a greater allowance "never gives a smaller": the share, or the best least bundle of a cut that was stopped
+abbrev pub leastFound : Found → ℕ
+leastFound (shared share partition count) = share
+leastFound (stopped least partition count) = least
+
+-- the same of an answer, 0 where the cut is refused
+abbrev pub leastAnswered : Answer Found → ℕ
+leastAnswered (refused number) = 0
+leastAnswered (accepted result) = leastFound result
+
 -- a partition in twelve places, 0 after its last entry
 abbrev pub placed : List ℕ → List ℕ
 placed partition = padded mostItems 0 partition

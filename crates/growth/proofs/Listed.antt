@@ -5,9 +5,10 @@ use Prim.Native.Nat.{ℕ, zero, suc, _≤_, min, max}
 use native.Mathlib.Omega.{arith}
 use lib.ListN.{length, replicate}
 use Rattle.lists.specs.Lists.{range, Pairwise}
+use Rattle.lists.specs.Dictionary.{InOrder, Differ}
 use Rattle.lists.proofs.ranges.Ranges.{in-range, range-bounds}
 use Rattle.lists.proofs.dictionary.Listed.{in-branches, branch-of}
-use Rattle.lists.proofs.dictionary.Dictionary.{InOrder, Differ, range-rising, branches-in-order, branches-differ}
+use Rattle.lists.proofs.dictionary.Dictionary.{range-rising, branches-in-order, branches-differ}
 use Rattle.growth.specs.Growth.{growthFrom, Grows}
 
 -- all of them

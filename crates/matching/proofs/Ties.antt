@@ -8,10 +8,10 @@ use lib.Dec.{eqb}
 use lib.ListN.{length}
 use borrow.Author.Tests.{eq-eqb}
 use Rattle.lists.specs.Lists.{filter, Rising}
-use Rattle.lists.specs.Dictionary.{listsOver, greatest, Precedes, sublists}
+use Rattle.lists.specs.Dictionary.{listsOver, greatest, Precedes, InOrder, sublists}
 use Rattle.lists.proofs.dictionary.First.{firstBest-reaches}
 use Rattle.lists.proofs.dictionary.Listed.{in-listsOver}
-use Rattle.lists.proofs.dictionary.Dictionary.{InOrder, range-rising, pairwise-sublist, listsOver-in-order, sublists-in-order, firstThat-in-order}
+use Rattle.lists.proofs.dictionary.Dictionary.{range-rising, pairwise-sublist, listsOver-in-order, sublists-in-order, firstThat-in-order}
 use Rattle.lists.proofs.members.Counting.{filter-sublist, reject-sublist}
 use Rattle.matching.specs.Matching.{without, wanted, neighbours, tight, waitingSet, matches, Matched, matching, cutterOf, bundleNumbers, waitingOf, servedOf, freeOf, chosenOf}
 use Rattle.matching.proofs.Waiting.{mem-tight}

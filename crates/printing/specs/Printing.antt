@@ -31,7 +31,7 @@ longestYard = 27 + 2 * sumDigits + longestPile + longestCut
 abbrev pub longestCutters : ℕ
 longestCutters = 10 + 2 * mostAgents
 
--- a buffer of so many bytes is long enough for the division of every table within the limits (proofs/printed/Longest.antt): the head, a line for each yard,
--- the cutters, and (end) with the line feed
+-- a buffer of so many bytes is long enough for the division of every table within the limits (proofs/printed/Longest.antt): the head,
+-- a line for each yard, the cutters, and (end) with the line feed
 abbrev pub longestPrinted : ℕ
 longestPrinted = longestHead + mostAgents * longestYard + longestCutters + 6

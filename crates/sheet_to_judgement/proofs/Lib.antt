@@ -1,6 +1,6 @@
--- The theorem that a text is accepted exactly if all it states is true, the length of buffer with which it is never refused, and that no text is refused for an allowance; then the laws that it and the proofs of the functions cite: the printed
--- margins, the outcome of a sheet at the front of a text, the shape of a division that is read, what the code keeps of it, and how each answer of
--- judging is printed.
+-- The theorem that a text is accepted exactly if all it states is true, the length of buffer with which it is never refused, and that no
+-- text is refused for an allowance; then the laws that these and the proofs of the functions cite: the printed margins, the outcome of a
+-- sheet at the front of a text, the shape of a division that is read, what the code keeps of it, and how each answer of judging is printed.
 pub mod Theorems
 pub mod NoAllowance
 pub mod Longest
