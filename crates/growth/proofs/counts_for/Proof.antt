@@ -46,11 +46,21 @@ loop-holds c =
     let n = c .before .lesser2 .result in
     (omega arith, ap (λ row. set (filledTo n 0) 0 row) (c .first-row .ensures) ∙ filledTo-next n 0 (omega arith))
 
+-- where `most` and `last` are worked out, from where the loop is tested
+abbrev most-known : tie.At-loop Inv-loop μ-loop → tie.After-lesser2 Inv-loop μ-loop
+most-known l = l .before .before
+
+abbrev last-known : tie.At-loop Inv-loop μ-loop → tie.After-lesser Inv-loop μ-loop
+last-known l = most-known l .before
+
+abbrev most : tie.At-loop Inv-loop μ-loop → ℕ
+most l = most-known l .lesser2 .result
+
 -- the row that the loop goes on from
-row-left : (l : tie.At-loop Inv-loop μ-loop) → getD (l .loop .counts) (l .loop .left) [] ≡ countRow (l .before .before .lesser2 .result) (l .loop .left)
+row-left : (l : tie.At-loop Inv-loop μ-loop) → getD (l .loop .counts) (l .loop .left) [] ≡ countRow (most l) (l .loop .left)
 row-left l =
     ap (λ rows. getD rows (l .loop .left) []) (l .loop .inv .1)
-    ∙ getD-filled (mostItems + 1) (zeros usedPlaces) [] (countRow (l .before .before .lesser2 .result)) (l .loop .left) (l .loop .left) (omega arith)
+    ∙ getD-filled (mostItems + 1) (zeros usedPlaces) [] (countRow (most l)) (l .loop .left) (l .loop .left) (omega arith)
 
 mul-row : tie.Need-mul-row Inv-loop μ-loop
 mul-row c = omega arith
@@ -61,8 +71,8 @@ array-copy-out-row c = omega arith
 next-row-requires : tie.Need-next-row-requires Inv-loop μ-loop
 next-row-requires c κs =
     let l = c .before .before in
-    let few : l .before .before .lesser2 .result ≤ mostAgents = omega (arith, l .before .before .lesser2 .ensures) in
-    (few, subst (NextFits (l .before .before .lesser2 .result)) (sym (row-left l)) (next-fits (l .before .before .lesser2 .result) (l .loop .left) few (omega (arith, l .before .before .before .lesser .ensures))))
+    let few : most l ≤ mostAgents = omega (arith, most-known l .lesser2 .ensures) in
+    (few, subst (NextFits (most l)) (sym (row-left l)) (next-fits (most l) (l .loop .left) few (omega (arith, last-known l .lesser .ensures))))
 
 add-counts : tie.Need-add-counts Inv-loop μ-loop
 add-counts c = omega arith
@@ -82,19 +92,18 @@ loop-less c = omega arith
 loop-again : tie.Need-loop-again Inv-loop μ-loop
 loop-again c =
     let l = c .before .before .before in
-    let n = l .before .before .lesser2 .result in
-    let row : c .next-row .result ≡ countRow n (l .loop .left + 1) =
-    c .next-row .ensures ∙ ap (nextRow n) (row-left l) ∙ nextRow-countRow n (l .loop .left) ∙ ap (countRow n) (sym (add-one (l .loop .left))) in
-    (omega arith, ap₂ (λ rows row. set rows (l .loop .left + 1) row) (l .loop .inv .1) row ∙ filledTo-next n (l .loop .left + 1) (omega (arith, l .before .before .before .lesser .ensures)))
+    let row : c .next-row .result ≡ countRow (most l) (l .loop .left + 1) =
+    c .next-row .ensures ∙ ap (nextRow (most l)) (row-left l) ∙ nextRow-countRow (most l) (l .loop .left) ∙ ap (countRow (most l)) (sym (add-one (l .loop .left))) in
+    (omega arith, ap₂ (λ rows row. set rows (l .loop .left + 1) row) (l .loop .inv .1) row ∙ filledTo-next (most l) (l .loop .left + 1) (omega (arith, last-known l .lesser .ensures)))
 
 returns : tie.Need-returns Inv-loop μ-loop
 unfolding countTable
 returns c =
     let l = c .before in
-    let all : l .loop .left ≡ l .before .before .before .lesser .result = omega arith in
+    let all : l .loop .left ≡ last-known l .lesser .result = omega arith in
     l .loop .inv .1
-    ∙ ap (λ rows. filledTo (l .before .before .lesser2 .result) (rows + 1)) (all ∙ l .before .before .before .lesser .ensures)
-    ∙ ap (λ n. filledTo n (min (l .before .before .before .before .args .items) mostItems + 1)) (l .before .before .lesser2 .ensures)
+    ∙ ap (λ rows. filledTo (most l) (rows + 1)) (all ∙ last-known l .lesser .ensures)
+    ∙ ap (λ n. filledTo n (min (last-known l .before .args .items) mostItems + 1)) (most-known l .lesser2 .ensures)
 
 pub counts-for-spec : {M : Type 1} → statement M
 counts-for-spec =
