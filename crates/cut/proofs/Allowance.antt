@@ -6,7 +6,6 @@ use mathlib.Core.Logic.{⊎-elim}
 use mathlib.Core.List.{List}
 use Prim.Native.Nat.{ℕ, _≤_, _<_, _^_}
 use native.Mathlib.Omega.{arith}
-use lib.Dec.{leb}
 use lib.ListN.{length}
 use lib.Seq.{take-all}
 use borrow.Author.Tests.{le-leb, lt-leb}
@@ -79,31 +78,29 @@ cutting-shared valuation set n allowance some few small enough =
     cutting-within valuation set n allowance some few small (omega (arith, growths-positive n (length (valuesOf valuation set)) some))
     ∙ ap accepted (found-whole n (valuesOf valuation set) allowance enough)
 
+-- a test that the allowance has no part in
+leastAnswered-require : (number : ℕ) (test : Bool) (x y : Answer Found) → (test ≡ true → leastAnswered x ≤ leastAnswered y)
+    → leastAnswered (require number test x) ≤ leastAnswered (require number test y)
+leastAnswered-require number true x y le = le refl
+leastAnswered-require number false x y le = omega arith
+
 -- "A greater allowance never gives a smaller least pile": for every row, set and number of bundles, stopped, refused or not
 pub greater-allowance : (valuation : List ℕ) (set n a b : ℕ) → a ≤ b → leastAnswered (cutting valuation set n a) ≤ leastAnswered (cutting valuation set n b)
 unfolding cutting
-greater-allowance valuation set n a b le = step (within mostAgents n) refl (namesItems set)
-  where
-    values : List ℕ
-    values = valuesOf valuation set
-
-    tried : Bool → Bool → ℕ → Answer Found
-    tried w i allowance = require 4 w (require 5 i (require 14 (leb 1 allowance) (accepted (found n values allowance))))
-
-    step : (w : Bool) → within mostAgents n ≡ w → (i : Bool) → leastAnswered (tried w i a) ≤ leastAnswered (tried w i b)
-    step false e i = omega arith
-    step true e false = omega arith
-    step true e true =
-        ⊎-elim
-        (λ (none : a < 1). rw (lt-leb 1 a none) (omega arith))
-        (λ (some : 1 ≤ a).
-        let more : 1 ≤ b = omega arith in
-        let bundles : 1 ≤ n = within-bounds mostAgents n e .0 in
-        rw (le-leb 1 a some, le-leb 1 b more)
-        (omega (
-          arith,
-          leastFound-greatest n values a bundles,
-          leastFound-greatest n values b bundles,
-          greatest-take (leastBundle n values) a b (growthPartitions n (length values)) le,
-        )))
-        (lt-or-ge a 1)
+greater-allowance valuation set n a b le =
+    leastAnswered-require 4 (within mostAgents n) _ _ (λ inside.
+    leastAnswered-require 5 (namesItems set) _ _ (λ _.
+    ⊎-elim
+    (λ (none : a < 1). rw (lt-leb 1 a none) (omega arith))
+    (λ (some : 1 ≤ a).
+    let values = valuesOf valuation set in
+    let more : 1 ≤ b = omega arith in
+    let bundles : 1 ≤ n = within-bounds mostAgents n inside .0 in
+    rw (le-leb 1 a some, le-leb 1 b more)
+    (omega (
+      arith,
+      leastFound-greatest n values a bundles,
+      leastFound-greatest n values b bundles,
+      greatest-take (leastBundle n values) a b (growthPartitions n (length values)) le,
+    )))
+    (lt-or-ge a 1)))

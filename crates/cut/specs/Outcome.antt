@@ -62,7 +62,7 @@ cutting valuation set bundles allowance =
     (require 14 (leb 1 allowance)
     (accepted (found bundles (valuesOf valuation set) allowance))))
 
--- "least pile", of which a greater allowance "never gives a smaller": the share, or the best least bundle of a cut that was stopped
+-- the "least pile" that a cut gives (document 02, order 7): the share, or the best least bundle of a cut that was stopped
 abbrev pub leastFound : Found → ℕ
 leastFound (shared share partition count) = share
 leastFound (stopped least partition count) = least

@@ -2,7 +2,7 @@
 use mathlib.Core.List.{List}
 use Prim.Native.Nat.{ℕ}
 use Rattle.sheet.specs.Answers.{Answer, refused, accepted}
-use Rattle.cut.specs.Outcome.{Found, shared, stopped, placed}
+use Rattle.cut.specs.Outcome.{Found, shared, stopped, leastFound, placed}
 
 -- the kind of answer: 0 for the share, 255, which is no refusal's number, for a cut that was stopped, or the number of the refusal
 abbrev pub kindOf : Answer Found → ℕ
@@ -12,8 +12,7 @@ kindOf (accepted (stopped least partition count)) = 255
 
 -- the share, or the best least bundle of a cut that was stopped, in place of what stood there
 abbrev pub storeFigure : Found → ℕ → ℕ
-storeFigure (shared share partition count) old = share
-storeFigure (stopped least partition count) old = least
+storeFigure found old = leastFound found
 
 -- the partition in twelve places, in place of what stood there
 abbrev pub storePartition : Found → List ℕ → List ℕ
