@@ -1,4 +1,4 @@
--- Members of a list: tested, counted, mapped, and none of them twice.
+-- Members of a list: tested, counted, mapped, in another order, and none of them twice.
 pub mod Each
 pub mod Counting
 pub mod Congruence
@@ -9,3 +9,4 @@ pub mod Only
 pub mod Maps
 pub mod FlatMap
 pub mod WithoutOne
+pub mod Permuted
