@@ -1,2 +1,4 @@
--- Laws of the test that leaves a branch of the walk.
+-- Laws of the tests that leave a branch of the walk.
+pub mod Reached
 pub mod Threshold
+pub mod Needed

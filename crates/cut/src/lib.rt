@@ -1,15 +1,23 @@
 // Cutting one valuation (row of marks): the maximin share of a set of items (pieces), and the first partition (layout) of them
 // into bundles (piles) that reaches it; or, where an allowance stops the search, the best among the first growth partitions.
-// The search walks the growth partitions depth first and leaves a branch that cannot be better.
+// The search walks the growth partitions depth first and leaves a branch that cannot be better. Where the allowance is enough it works out
+// the share first, which does not depend on the order of the values, and then looks for the first partition that reaches it.
 ghost use mathlib.Core.Path.{_≡_};
 ghost use mathlib.Core.Bool.{cond};
+ghost use Prim.Native.Nat.{_≤_};
+ghost use lib.ListN.{length, replicate};
+ghost use Rattle.lists.specs.Sums.{total};
+ghost use Rattle.sheet.specs.Limits.{mostItems, greatestSum};
 ghost use Rattle.sheet.specs.Answers.{refused, accepted};
-ghost use Rattle.cut.specs.Outcome.{outcome, found, cutting};
-ghost use Rattle.cut.specs.internal.Walk.{Allowed};
+ghost use Rattle.growth.specs.Growth.{growths};
+ghost use Rattle.cut.specs.Outcome.{placed, outcome, wholeCut, found, cutting};
+ghost use Rattle.cut.specs.internal.Walk.{Allowed, Counted};
 ghost use Rattle.cut.specs.declared.Answer.the-variants as answers;
-use crate::walking::Best;
-use crate::walking::Search;
-use crate::walking::walk;
+use crate::sharing::mean;
+use crate::sharing::share_of;
+use crate::sorting::falling;
+use crate::walking::walk_from;
+use growth::Counts;
 use growth::counts_for;
 use sheet::Row;
 use sheet::Sheet;
@@ -18,6 +26,8 @@ use sheet::valuing::values_of;
 
 mod loads;
 mod pruning;
+mod sharing;
+mod sorting;
 mod walking;
 
 // The share; where the allowance stopped the cut, the best least bundle; or the number of the reason why the cut is refused.
@@ -29,6 +39,9 @@ pub enum Answer {
 
 // The bundle of each item of the set in rising order, 0 after the last.
 pub type Partition = [u8; Sheet::ITEMS];
+
+// A number for each item.
+type Values = [u64; Sheet::ITEMS];
 
 // The answer, the partition that reaches it, and the number of growth partitions looked at; all 0 where the cut is refused.
 pub struct Outcome {
@@ -58,33 +71,14 @@ fn answer_with(least: u64, enough: bool) -> Answer
     Answer::Stopped(least)
 }
 
-// The cut of the values in `bundles` bundles, as far as the allowance goes.
-fn cut_values(values: &[u64], bundles: usize, allowance: u32) -> Outcome
-    requires { ⌜ Allowed (now values) bundles allowance ⌝ }
+// The cut by one walk over the growth partitions in dictionary order, as far as the allowance goes.
+fn cut_in_order(values: &[u64], counts: &Counts, bundles: usize, allowance: u32) -> Outcome
+    requires { ⌜ Allowed (now values) bundles allowance × Counted bundles (length (now values)) (now counts) ⌝ }
     ensures { λ r. ⌜ r ≡ outcome (accepted (found bundles (now (values .entry)) allowance)) ⌝ }
 {
-    let counts = counts_for(values.len(), bundles);
     let row = counts[values.len()];
     let enough = row[0] <= allowance;
-    let blank = [0u8; Sheet::ITEMS];
-    let none = Best {
-        goal: 0,
-        partition: blank,
-    };
-    let start = Search {
-        best: none,
-        allowance,
-    };
-    let end = walk(
-        values,
-        &counts,
-        bundles,
-        0,
-        0,
-        [0; Sheet::AGENTS],
-        blank,
-        start,
-    );
+    let end = walk_from(values, counts, bundles, mean(values, bundles), 0, allowance);
     let best = end.best;
     let partition = best.partition;
     Outcome {
@@ -92,6 +86,67 @@ fn cut_values(values: &[u64], bundles: usize, allowance: u32) -> Outcome
         partition,
         count: allowance - end.allowance,
     }
+}
+
+// The cut where the allowance is enough: the share first, over the values in falling order, and then a walk for the first partition that
+// reaches it, which ends there.
+fn cut_by_share(values: &[u64], counts: &Counts, bundles: usize, allowance: u32) -> Outcome
+    requires { ⌜ Allowed (now values) bundles allowance × Counted bundles (length (now values)) (now counts) × (growths bundles (length (now values)) ≤ allowance) ⌝ }
+    ensures { λ r. ⌜ r ≡ outcome (accepted (wholeCut bundles (now (values .entry)))) ⌝ }
+{
+    let sorted = falling(values);
+    let in_falling_order = &sorted[..values.len()];
+    let share = share_of(in_falling_order, counts, bundles, allowance);
+    let end = walk_from(values, counts, bundles, share, share, allowance);
+    let best = end.best;
+    let partition = best.partition;
+    Outcome {
+        answer: Answer::Share(share),
+        partition,
+        count: allowance - end.allowance,
+    }
+}
+
+// All of so many items in bundle 1.
+fn all_in_first(count: usize) -> Partition
+    requires { ⌜ count ≤ mostItems ⌝ }
+    ensures { λ r. ⌜ r ≡ placed (replicate count 1) ⌝ }
+{
+    let mut partition = [0u8; Sheet::ITEMS];
+    let mut i: usize = 0;
+    while i < count {
+        partition[i] = 1;
+        i += 1;
+    }
+    partition
+}
+
+// The cut in one bundle, of which there is one partition.
+fn cut_in_one(values: &[u64]) -> Outcome
+    requires { ⌜ (length (now values) ≤ mostItems) × (total (now values) ≤ greatestSum) ⌝ }
+    ensures { λ r. ⌜ r ≡ outcome (accepted (wholeCut 1 (now (values .entry)))) ⌝ }
+{
+    Outcome {
+        answer: Answer::Share(mean(values, 1)),
+        partition: all_in_first(values.len()),
+        count: 1,
+    }
+}
+
+// The cut of the values in `bundles` bundles, as far as the allowance goes.
+fn cut_values(values: &[u64], bundles: usize, allowance: u32) -> Outcome
+    requires { ⌜ Allowed (now values) bundles allowance ⌝ }
+    ensures { λ r. ⌜ r ≡ outcome (accepted (found bundles (now (values .entry)) allowance)) ⌝ }
+{
+    if bundles == 1 {
+        return cut_in_one(values);
+    }
+    let counts = counts_for(values.len(), bundles);
+    let row = counts[values.len()];
+    if allowance < row[0] {
+        return cut_in_order(values, &counts, bundles, allowance);
+    }
+    cut_by_share(values, &counts, bundles, allowance)
 }
 
 // The share of the items of `set` in `bundles` bundles, by the values of `valuation`, and the first partition in dictionary order

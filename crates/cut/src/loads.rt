@@ -1,6 +1,6 @@
 // The loads of the bundles (piles): the values that lie on each.
 ghost use mathlib.Core.Path.{_≡_};
-ghost use Prim.Native.Nat.{_≤_};
+ghost use Prim.Native.Nat.{_≤_, _<_};
 ghost use Rattle.lists.specs.Sums.{leastOf};
 ghost use Rattle.sheet.specs.Limits.{mostAgents};
 ghost use Rattle.cut.specs.internal.Loads.{loadOf};
@@ -23,4 +23,20 @@ pub(crate) fn least(loads: &Loads, bundles: usize) -> u64
         i += 1;
     }
     low
+}
+
+// One of the least of the first `bundles` loads. Only that it is one of them is relied on.
+pub(crate) fn lightest(loads: &Loads, bundles: usize) -> usize
+    requires { ⌜ (1 ≤ bundles) × (bundles ≤ mostAgents) ⌝ }
+    ensures { λ r. ⌜ r < bundles ⌝ }
+{
+    let mut light: usize = 0;
+    let mut i: usize = 1;
+    while i < bundles {
+        if loads[i] < loads[light] {
+            light = i;
+        }
+        i += 1;
+    }
+    light
 }

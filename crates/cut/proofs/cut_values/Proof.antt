@@ -1,26 +1,33 @@
--- `cut::cut_values` meets its contract, by what its walk finds; the table says whether the allowance is enough. Assumes nothing.
-use mathlib.Core.Path.{_≡_, ap, ap₂, _∙_}
-use mathlib.Core.Bool.{cond}
+-- `cut::cut_values` meets its contract: one bundle has one growth partition, and else the table says whether the allowance is enough.
+-- Assumes nothing.
+use mathlib.Core.Path.{_≡_, sym, ap, ap₂, subst, _∙_}
 use mathlib.Core.List.{[]}
-use Prim.Native.Nat.{ℕ, _-_, min}
-use native.Mathlib.Nat.{add-sub-cancel}
+use Prim.Native.Nat.{_≤_, min}
 use native.Mathlib.Omega.{arith}
-use lib.Dec.{leb}
 use lib.ListN.{length, getD}
 use borrow.Author.Needs.{needs}
-use Rattle.lists.proofs.places.Zeros.{getD-zeros}
 use Rattle.sheet.specs.Limits.{mostAgents, mostItems}
+use Rattle.sheet.specs.Answers.{accepted}
 use Rattle.growth.specs.Growth.{growths}
 use Rattle.growth.specs.Counts.{countTable}
 use Rattle.growth.proofs.Table.{countTable-counts}
+use Rattle.cut.specs.Outcome.{found, outcome}
 use Rattle.cut.specs.internal.Walk.{Counted}
-use Rattle.cut.specs.declared.Answer.the-variants.{Share, Stopped}
-use Rattle.cut.specs.declared.Outcome.{Outcome}
-use Rattle.cut.specs.declared.walking.Search.{Search}
-use Rattle.cut.proofs.walking.Whole.{bestLeast, bestPartition, bestFound, walked-whole}
-use Rattle.cut.proofs.walking.Answered.{answeredWith, answered-found}
+use Rattle.cut.proofs.Allowance.{found-whole}
+use Rattle.cut.proofs.One.{growths-one}
 use Rattle.cut.proofs.cut_values.Statement.{statement}
 use Rattle.cut.proofs.cut_values.Tie as tie
+
+cut-in-one-requires : tie.Need-cut-in-one-requires
+cut-in-one-requires c κs = search needs
+
+returns : tie.Need-returns
+returns c =
+    let s = c .before .before .before in
+    let values = s .args .values .now in
+    c .cut-in-one .ensures
+    ∙ ap (λ found. outcome (accepted found)) (sym (found-whole 1 values (s .args .allowance) (omega (arith, growths-one (length values), s .pre .some-allowance))))
+    ∙ ap (λ n. outcome (accepted (found n values (s .args .allowance)))) (sym (c .before .if1 .taken))
 
 counts-for-requires : tie.Need-counts-for-requires
 counts-for-requires c κs = search needs
@@ -31,74 +38,52 @@ mul-row c = search needs
 array-copy-out-row : tie.Need-array-copy-out-row
 array-copy-out-row c = search needs
 
-array-read-enough : tie.Need-array-read-enough
-array-read-enough c = search needs
+array-read-if2 : tie.Need-array-read-if2
+array-read-if2 c = search needs
 
 -- the table is that of the values and the bundles
-counted : (c : tie.After-counts-for) → let a = c .before .before .args in Counted (a .bundles) (length (a .values .now)) (c .counts-for .result)
+counted : (c : tie.After-counts-for) → let a = c .before .before .before .args in Counted (a .bundles) (length (a .values .now)) (c .counts-for .result)
 counted c left used few in-use =
-    let s = c .before .before in
+    let s = c .before .before .before in
     let n = s .args .bundles in
     let k = length (s .args .values .now) in
     let bundles : min n mostAgents ≡ n = omega (arith, s .pre .few-bundles) in
     let items : min k mostItems ≡ k = omega (arith, s .pre .few) in
     ap (λ counts. getD (getD counts left []) used 0) (c .counts-for .ensures ∙ ap₂ countTable bundles items) ∙ countTable-counts n k left used few in-use
 
-walk-requires : tie.Need-walk-requires
-walk-requires c κs =
-    let counting = c .before .before in
-    let s = counting .before .before in (
-      record {
-        few = omega (arith, s .pre .few);
-        some-bundles = s .pre .some-bundles;
-        few-bundles = s .pre .few-bundles;
-        opened = omega arith;
-        sums-bounded = λ i. omega (arith, getD-zeros mostAgents i, s .pre .small);
-      },
-      counted counting,
-    )
+cut-in-order-requires : tie.Need-cut-in-order-requires
+cut-in-order-requires c κs = let counting = c .before .before .before in (counting .before .before .before .pre, counted counting)
 
--- what the walk finds
-walk-finds : (c : tie.After-walk) → let a = c .before .before .before .before .before .args in c .walk .result ≡ bestFound (a .bundles) (a .values .now) (a .allowance)
-walk-finds c =
-    let s = c .before .before .before .before .before in
-    c .walk .ensures ∙ walked-whole (s .args .bundles) (s .args .values .now) (s .args .allowance) (s .pre .few) (s .pre .some-bundles) (s .pre .some-allowance)
+returns-2 : tie.Need-returns-2
+returns-2 c = search needs
 
-sub-answer-with : tie.Need-sub-answer-with
-sub-answer-with c = omega (arith, ap (λ found. found .best .goal) (walk-finds (c .before .before .before)))
-
-answer-with-requires : tie.Need-answer-with-requires
-answer-with-requires c κs = search needs
-
-sub-t21 : tie.Need-sub-t21
-sub-t21 c = omega (arith, ap (λ found. found .allowance) (walk-finds (c .before .before .before .before .before)))
-
-returns : tie.Need-returns
+-- the number of growth partitions stands where it is read
+is-enough : (c : tie.Else2) → let a = c .before .before .before .before .before .args in growths (a .bundles) (length (a .values .now)) ≤ a .allowance
 unfolding growths
-returns c =
-    let finding = c .before .before .before .before .before in
-    let counting = finding .before .before .before in
-    let s = counting .before .before in
-    let n = s .args .bundles in
-    let values = s .args .values .now in
-    let allowance = s .args .allowance in
-    let all-counted : getD (getD (counting .counts-for .result) (length values) []) 0 0 ≡ growths n (length values) = counted counting (length values) 0 (omega arith) (omega arith) in
-    let answered : Search → ℕ → Outcome = λ found count. record { answer = cond (leb count allowance) (Share (found .best .goal - 1)) (Stopped (found .best .goal - 1)); partition = found .best .partition; count = allowance - found .allowance } in
-    ap {B = Outcome} (λ answer. record { answer = answer; partition = finding .walk .result .best .partition; count = allowance - finding .walk .result .allowance }) (c .before .answer-with .ensures)
-    ∙ ap₂ answered (walk-finds finding) all-counted
-    ∙ ap (λ least. answeredWith n values allowance least (bestPartition n values allowance) (allowance - growths n (length values))) (add-sub-cancel (bestLeast n values allowance) 1)
-    ∙ answered-found n values allowance (s .pre .some-bundles)
+is-enough c =
+    let counting = c .before .before in
+    let a = counting .before .before .before .args in
+    subst (λ number. number ≤ a .allowance) (counted counting (length (a .values .now)) 0 (omega arith) (omega arith)) (c .if2 .left)
+
+cut-by-share-requires : tie.Need-cut-by-share-requires
+cut-by-share-requires c κs = let counting = c .before .before .before in (counting .before .before .before .pre, counted counting, is-enough (c .before))
+
+returns-3 : tie.Need-returns-3
+returns-3 c =
+    let a = c .before .before .before .before .before .before .before .args in
+    c .cut-by-share .ensures ∙ ap (λ found. outcome (accepted found)) (sym (found-whole (a .bundles) (a .values .now) (a .allowance) (is-enough (c .before .before))))
 
 pub cut-values-spec : {M : Type 1} → statement M
 cut-values-spec =
     tie.close
     (tie.spec
+    cut-in-one-requires
+    returns
     counts-for-requires
     mul-row
     array-copy-out-row
-    array-read-enough
-    walk-requires
-    sub-answer-with
-    answer-with-requires
-    sub-t21
-    returns)
+    array-read-if2
+    cut-in-order-requires
+    returns-2
+    cut-by-share-requires
+    returns-3)

@@ -3,7 +3,7 @@ use mathlib.Core.Path.{_≡_, refl, ap, _∙_}
 use mathlib.Core.Bool.{Bool, true, false}
 use mathlib.Core.Logic.{⊎-elim}
 use mathlib.Core.List.{List, [], _∷_, _++_, map, List·Memᴰ, List·Memᴰ·head, List·Memᴰ·tail, List·Memᴰ·not-nil, List·Memᴰ·cases-cons}
-use Prim.Native.Nat.{ℕ, _+_, _≤_, _<_}
+use Prim.Native.Nat.{ℕ, _+_, _≤_, _<_, max}
 use native.Mathlib.Omega.{arith}
 use lib.Dec.{leb}
 use borrow.Author.Tests.{leb-true, leb-false, lt-leb, le-leb, eq-eqb, ne-eqb}
@@ -50,6 +50,15 @@ module _ (v : List ℕ → ℕ) (h : List ℕ → List ℕ) where
       (scan-covers (keep (v y) (h y) b) ys)
       (List·Memᴰ·cases-cons m)
 
+  -- a goal above 0 ends above the greatest value, or stays
+  pub scan-goal : (b : Best) (xs : List (List ℕ)) → 1 ≤ b .goal → scan v h b xs .goal ≡ max (b .goal) (greatest v xs + 1)
+  scan-goal b [] some = omega arith
+  scan-goal b (x ∷ xs) some =
+      ⊎-elim
+      (λ lt. omega (arith, ap (λ a. scan v h a xs .goal) (keep-old (v x) (h x) b lt), scan-goal b xs some))
+      (λ ge. omega (arith, ap (λ a. scan v h a xs .goal) (keep-new (v x) (h x) b ge), scan-goal (record { goal = v x + 1; partition = h x }) xs (omega arith)))
+      (lt-or-ge (v x) (b .goal))
+
   -- lists below the goal change nothing
   pub scan-idle : (b : Best) (xs : List (List ℕ)) → ((x : List ℕ) → List·Memᴰ x xs → v x < b .goal) → scan v h b xs ≡ b
   scan-idle b [] low = refl
@@ -94,7 +103,7 @@ module _ (v : List ℕ → ℕ) (h : List ℕ → List ℕ) where
   scan-later b [] pos le = absurd (omega arith)
   scan-later b (l ∷ ls) pos le = scan-step b l ls (λ a. scan-later a ls) le
 
-  -- a scan that starts with no goal ends at the first best
-  pub scan-best : (b : Best) {x : List ℕ} (ls : List (List ℕ)) → List·Memᴰ x ls → b .goal ≡ 0 → scan v h b ls ≡ bestOf ls
-  scan-best b [] m e = absurd (List·Memᴰ·not-nil m)
-  scan-best b (l ∷ ls) m e = scan-step b l ls (λ a. scan-later a ls) (omega arith)
+  -- a scan whose goal is reached ends at the first best
+  pub scan-best : (b : Best) {x : List ℕ} (ls : List (List ℕ)) → List·Memᴰ x ls → b .goal ≤ greatest v ls → scan v h b ls ≡ bestOf ls
+  scan-best b [] m le = absurd (List·Memᴰ·not-nil m)
+  scan-best b (l ∷ ls) m le = scan-step b l ls (λ a. scan-later a ls) le

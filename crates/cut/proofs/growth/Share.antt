@@ -36,11 +36,11 @@ module _ (n : ℕ) (values : List ℕ) (some : 1 ≤ n) where
   best-growth : bestOf least (λ l. l) (growthPartitions n (length values)) ≡ bestOf least (λ l. l) (partitions n (length values))
   unfolding none
   best-growth =
-      sym (scan-best least (λ l. l) none (growthPartitions n (length values)) (growth-inhabited n 0 (length values) some) refl)
+      sym (scan-best least (λ l. l) none (growthPartitions n (length values)) (growth-inhabited n 0 (length values) some) (omega arith))
       ∙ ap (λ v. scan v (λ l. l) none (growthPartitions n (length values))) (sym unloaded-least)
       ∙ sym (scan-growth n 0 values (λ _. 0) (λ l. l) none (λ _ _. refl))
       ∙ ap (λ v. scan v (λ l. l) none (partitions n (length values))) unloaded-least
-      ∙ scan-best least (λ l. l) none (partitions n (length values)) (partitions-inhabited n (length values) some) refl
+      ∙ scan-best least (λ l. l) none (partitions n (length values)) (partitions-inhabited n (length values) some) (omega arith)
 
   -- the best over the growth partitions is the share
   pub greatest-growth : greatest (leastBundle n values) (growthPartitions n (length values)) ≡ maximinShare n values

@@ -14,16 +14,19 @@ use Rattle.lists.proofs.Cases.{lt-or-ge}
 use Rattle.lists.proofs.ranges.Ranges.{in-range}
 use Rattle.lists.proofs.members.Counting.{mem-any, any-none}
 use Rattle.lists.proofs.places.Passing.{drop-next}
-use Rattle.lists.proofs.sums.LeastOf.{leastOf-le}
-use Rattle.lists.proofs.sums.Sums.{sumOf-zero, sumOf-mono}
-use Rattle.cut.specs.Share.{bundleValue}
+use Rattle.lists.proofs.sums.Sums.{sumOf-zero}
 use Rattle.cut.specs.internal.Loads.{leastLoaded}
 use Rattle.cut.specs.internal.Pruning.{supply, demand, isShortAt, isShort}
-use Rattle.cut.proofs.Partitions.{sumOf-bundleValue}
+use Rattle.cut.proofs.pruning.Reached.{lacks-le-values}
 
 pub supply-le-total : (most : ℕ) (values : List ℕ) → supply most values ≤ total values
 supply-le-total most [] = omega arith
 supply-le-total most (v ∷ values) = omega (arith, supply-le-total most values)
+
+-- values that sum to no more than the threshold count whole
+pub supply-all : (most : ℕ) (values : List ℕ) → total values ≤ most → supply most values ≡ total values
+supply-all most [] le = omega arith
+supply-all most (v ∷ values) le = omega (arith, supply-all most values (omega arith))
 
 -- what the values from i on supply: value i, and the others
 pub supply-drop : (most : ℕ) (values : List ℕ) (i : ℕ) → i < length values
@@ -36,12 +39,8 @@ demand-zero goal load n = sumOf-zero (λ c. min (goal - load c) 0) n (λ c. omeg
 module _ (goal : ℕ) (load : ℕ → ℕ) (n : ℕ) where
   -- where a partition reaches the goal, the values supply what the bundles lack, at every threshold
   demand-le-supply : (most : ℕ) (values l : List ℕ) → goal ≤ leastLoaded n load values l → demand goal load n most ≤ supply most values
-  demand-le-supply most values l reached = omega (
-    arith,
-    sumOf-bundleValue (λ v. min v most) (omega arith) (λ x y. omega arith) n values l,
-    sumOf-mono (λ c. min (goal - load c) most) (λ c. min (bundleValue c values l) most) n
-        (λ c lo hi. omega (arith, leastOf-le (λ d. load d + bundleValue d values l) n c lo hi)),
-  )
+  demand-le-supply most values l reached =
+      lacks-le-values (λ v. min v most) (omega arith) (λ x y. omega arith) (λ x y le. omega arith) goal load n values l reached
 
   -- where the test fails at some threshold, no partition of the values reaches the goal
   pub isShort-below-goal : (values l : List ℕ) → isShort goal load n values ≡ true → leastLoaded n load values l < goal

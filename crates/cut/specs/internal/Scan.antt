@@ -12,6 +12,10 @@ use Rattle.cut.specs.declared.walking.Search.{Search}
 abbrev pub keep : ℕ → List ℕ → Best → Best
 keep v l b = cond (leb (b .goal) v) (record { goal = v + 1; partition = l }) b
 
+-- the search once it looked at one more list l, whose least bundle is v
+abbrev pub looked : ℕ → List ℕ → Search → Search
+looked v l s = record { best = keep v l (s .best); allowance = s .allowance - 1 }
+
 -- the best after each list l of ls is tried in turn, with the least bundle v l and kept as h l
 abbrev pub scan : (List ℕ → ℕ) → (List ℕ → List ℕ) → Best → List (List ℕ) → Best
 scan v h b [] = b

@@ -1,0 +1,86 @@
+-- `pruning::greatest_from_each` meets its contract. The loop's invariant: the places from i on are filled, and `most` is the greatest of the
+-- values from i on. Assumes nothing.
+use mathlib.Core.Path.{_≡_, refl, sym, ap, subst, _∙_}
+use mathlib.Core.Logic.{⊎-elim}
+use mathlib.Core.List.{[]}
+use Prim.Native.Nat.{_+_, _-_, _≤_}
+use native.Mathlib.Nat.{zero-add}
+use native.Mathlib.Omega.{arith}
+use lib.ListN.{length, drop, drop-of-length-le, length-set}
+use Rattle.sheet.specs.Limits.{mostItems}
+use Rattle.cut.specs.internal.Pruning.{greatestValue}
+use Rattle.cut.proofs.pruning.Needed.{greatestValue-drop, FilledFrom, filledFrom-before}
+use Rattle.cut.proofs.pruning.greatest_from_each.Statement.{statement}
+use Rattle.cut.proofs.pruning.greatest_from_each.Tie as tie
+
+abbrev Inv-loop : tie.InvT-loop
+Inv-loop values greatest₀ most₀ i₀ greatest most i = (i ≤ length values) × (length greatest ≡ mostItems) × (most ≡ greatestValue (drop i values)) × FilledFrom i values greatest
+
+abbrev μ-loop : tie.MeasureT-loop
+μ-loop values greatest₀ most₀ i₀ greatest most i = i
+
+loop-holds : tie.Need-loop-holds Inv-loop μ-loop
+loop-holds c =
+    let values = c .args .values .now in
+    let none : drop (length values) values ≡ [] = drop-of-length-le values {i = length values} (omega arith) in
+    (omega arith, refl, sym (ap greatestValue none), λ j low inside. absurd (omega arith))
+
+sub-i : tie.Need-sub-i Inv-loop μ-loop
+sub-i c = omega arith
+
+mul-if1 : tie.Need-mul-if1 Inv-loop μ-loop
+mul-if1 c = omega arith
+
+shared-slice-read-if1 : tie.Need-shared-slice-read-if1 Inv-loop μ-loop
+shared-slice-read-if1 c = omega arith
+
+mul-most : tie.Need-mul-most Inv-loop μ-loop
+mul-most c = omega arith
+
+shared-slice-read-most : tie.Need-shared-slice-read-most Inv-loop μ-loop
+shared-slice-read-most c = omega arith
+
+mul-greatest : tie.Need-mul-greatest Inv-loop μ-loop
+mul-greatest c = omega arith
+
+array-write-greatest : tie.Need-array-write-greatest Inv-loop μ-loop
+array-write-greatest c = omega arith
+
+loop-less : tie.Need-loop-less Inv-loop μ-loop
+loop-less c = omega arith
+
+loop-again : tie.Need-loop-again Inv-loop μ-loop
+loop-again c =
+    let l = c .before .before .before .loop in
+    let values = c .before .before .before .before .args .values .now in
+    let k = l .i - 1 in
+    let after : k + 1 ≡ l .i = omega arith in
+    let step = greatestValue-drop values k (omega arith) in
+    let later = ap (λ j. greatestValue (drop j values)) after in
+    let is : c .if1 .most ≡ greatestValue (drop k values) = ⊎-elim (λ w. omega (arith, step, later)) (λ w. omega (arith, step, later)) (c .if1 .came) in (
+      omega arith,
+      length-set (l .greatest) k (c .if1 .most) ∙ l .inv .1,
+      is,
+      filledFrom-before values (l .greatest) k (c .if1 .most) (omega (arith, l .inv .1)) (subst (λ j. FilledFrom j values (l .greatest)) (sym after) (l .inv .3)) is,
+    )
+
+returns : tie.Need-returns Inv-loop μ-loop
+returns c = λ i inside. rw (zero-add i) (c .before .loop .inv .3 i (omega arith) inside)
+
+pub greatest-from-each-spec : {M : Type 1} → statement M
+greatest-from-each-spec =
+    tie.close
+    (tie.spec
+    Inv-loop
+    μ-loop
+    loop-holds
+    sub-i
+    mul-if1
+    shared-slice-read-if1
+    mul-most
+    shared-slice-read-most
+    mul-greatest
+    array-write-greatest
+    loop-less
+    loop-again
+    returns)

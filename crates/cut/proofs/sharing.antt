@@ -1,0 +1,2 @@
+-- The law of dealing values to bundles.
+pub mod Dealt

@@ -1,0 +1,50 @@
+-- `sharing::share_of` meets its contract: the goal ends above the share. Assumes nothing.
+use mathlib.Core.Path.{_≡_, ap, _∙_}
+use Prim.Native.Nat.{_+_}
+use native.Mathlib.Nat.{div-le-self}
+use native.Mathlib.Omega.{arith}
+use Rattle.lists.specs.Sums.{total}
+use Rattle.cut.specs.Share.{maximinShare}
+use Rattle.cut.proofs.Laws.{maximinShare-le-mean}
+use Rattle.cut.proofs.walking.Whole.{walkable-start, walkedFrom-goal}
+use Rattle.cut.proofs.sharing.share_of.Statement.{statement}
+use Rattle.cut.proofs.sharing.share_of.Tie as tie
+
+mean-requires : tie.Need-mean-requires
+mean-requires c κs = let a = c .before .pre .0 in (a .small, a .some-bundles, a .few-bundles)
+
+deal-requires : tie.Need-deal-requires
+deal-requires c κs = let a = c .before .before .pre .0 in (a .small, a .some-bundles, a .few-bundles)
+
+add-goal : tie.Need-add-goal
+add-goal c =
+    let s = c .before .before .before in
+    let values = s .args .values .now in
+    let allowed = s .pre .0 in
+    omega (arith, c .deal .ensures, maximinShare-le-mean (s .args .bundles) values (allowed .some-bundles), div-le-self (total values) (s .args .bundles), allowed .small)
+
+walk-from-requires : tie.Need-walk-from-requires
+walk-from-requires c κs =
+    let s = c .before .before .before in
+    let a = s .args in
+    let allowed = s .pre .0 in
+    (walkable-start (a .bundles) (a .values .now) (a .allowance) (c .before .mean .result) allowed (omega (arith, c .before .mean .ensures, maximinShare-le-mean (a .bundles) (a .values .now) (allowed .some-bundles))), s .pre .1)
+
+-- the goal at the end of the walk
+goal-ends : (c : tie.After-walk-from) → let a = c .before .before .before .before .args in c .walk-from .result .best .goal ≡ maximinShare (a .bundles) (a .values .now) + 1
+goal-ends c =
+    let dealt = c .before .deal in
+    let s = c .before .before .before .before in
+    let a = s .args in
+    ap (λ end. end .best .goal) (c .walk-from .ensures)
+    ∙ walkedFrom-goal (a .bundles) (a .values .now) (a .allowance) _ (s .pre .0 .some-bundles) (s .pre .2) (omega arith) (omega (arith, dealt .ensures))
+
+sub-result : tie.Need-sub-result
+sub-result c = omega (arith, goal-ends (c .before .before))
+
+returns : tie.Need-returns
+returns c = omega (arith, goal-ends (c .before .before))
+
+pub share-of-spec : {M : Type 1} → statement M
+share-of-spec =
+    tie.close (tie.spec mean-requires deal-requires add-goal walk-from-requires sub-result returns)
