@@ -1,23 +1,22 @@
 -- One step of the walk: its end, a branch that it leaves, and its branches one after the other. Assumes nothing.
-use mathlib.Core.Path.{_≡_, sym, ap, ap₂, subst, fun-ext, _∙_}
-use mathlib.Core.Bool.{true, cond}
+use mathlib.Core.Path.{_≡_, sym, ap, ap₂, fun-ext, _∙_}
+use mathlib.Core.Bool.{true}
 use mathlib.Core.Logic.{⊎-elim}
-use mathlib.Core.List.{List, [], _∷_, map, append-nil, List·Memᴰ as Mem, List·Memᴰ·eq-of-singleton as only}
+use mathlib.Core.List.{List, [], _∷_, List·Memᴰ as Mem}
 use Prim.Native.Nat.{ℕ, suc, _+_, _≤_, _<_, min, max}
 use native.Mathlib.Nat.{add-zero}
 use native.Mathlib.Numerals.{add-one}
 use native.Mathlib.Omega.{arith}
-use lib.ListN.{length, getD, set, length-map, length-set}
+use lib.ListN.{length, getD, set, length-set}
 use lib.Seq.{sets, getD-set-same, getD-set-other}
 use Rattle.lists.specs.Lists.{range}
 use Rattle.lists.specs.Sums.{leastOf}
 use Rattle.lists.specs.Dictionary.{branches}
-use Rattle.lists.proofs.Cases.{eq-or-ne, lt-or-ge}
-use borrow.Author.Tests.{ne-eqb}
+use Rattle.lists.proofs.Cases.{eq-or-ne}
 use Rattle.lists.proofs.places.Passing.{range-next}
 use Rattle.lists.proofs.ranges.Ranges.{in-range}
-use Rattle.lists.proofs.sums.LeastOf.{leastOf-cong, leastOf-le, le-leastOf}
-use Rattle.lists.proofs.dictionary.Listed.{branches-append, branch-of, in-branches}
+use Rattle.lists.proofs.sums.LeastOf.{leastOf-cong}
+use Rattle.lists.proofs.dictionary.Listed.{branches-append, in-branches}
 use Rattle.growth.specs.Growth.{growthFrom}
 use Rattle.cut.specs.Share.{bundleValue}
 use Rattle.cut.specs.internal.Loads.{loadOf, leastLoaded}
@@ -25,10 +24,9 @@ use Rattle.cut.specs.internal.Scan.{looked, searched, passing}
 use Rattle.cut.specs.internal.Pruning.{isOutOfReach}
 use Rattle.cut.specs.internal.Walk.{Walkable, walked}
 use Rattle.cut.specs.declared.walking.Search.{Search}
-use Rattle.cut.proofs.growth.Searched.{searchOf, searched-append, searched-nil, searched-spent, searched-all, searched-idle, searched-branch}
-use Rattle.cut.proofs.growth.Scan.{scan-covers}
+use Rattle.cut.proofs.growth.Searched.{searched-append, searched-nil, searched-spent, searched-all, searched-idle, searched-branch}
 use Rattle.cut.proofs.growth.Enough.{leastLoaded-cons}
-use Rattle.cut.proofs.pruning.Needed.{isOutOfReach-below-goal}
+use Rattle.cut.proofs.pruning.OutOfReach.{isOutOfReach-below-goal}
 use Rattle.cut.proofs.loads.Stored.{loaded, loaded-stored}
 
 module _ (bundles at used : ℕ) (loads partition : List ℕ) (search : Search) where
@@ -76,11 +74,11 @@ module _ (bundles at used : ℕ) (loads partition : List ℕ) (search : Search) 
     walked-all = rw (add-one used)
 
     -- the growth partitions that lay the next value on bundle c
-    abbrev next : ℕ → List (List ℕ)
+    abbrev pub next : ℕ → List (List ℕ)
     next c = growthFrom bundles (max used c) (length rest)
 
     -- one bundle more: its growth partitions are searched after those of the bundles before
-    walkedUpTo-more : (bundle : ℕ) → walkedUpTo (bundle + 1)
+    pub walkedUpTo-more : (bundle : ℕ) → walkedUpTo (bundle + 1)
         ≡ searched (leastLoaded bundles (loadOf loads) (value ∷ rest)) (sets partition at) (walkedUpTo bundle) (branches next ((bundle + 1) ∷ []))
     walkedUpTo-more bundle =
         let reach = leastLoaded bundles (loadOf loads) (value ∷ rest) in
@@ -108,50 +106,6 @@ module _ (bundles at used : ℕ) (loads partition : List ℕ) (search : Search) 
         ∙ searched-branch bundles load value rest (sets partition at) next tried c []
         ∙ searched-nil reach (sets partition at) (searched (leastLoaded bundles (loaded load c value) rest) (λ l. sets partition at (c ∷ l)) tried (next c))
         ∙ ap₂ (λ v k. searched v (sets (set partition at c) k) tried (next c)) (stored bundle inside) (sym (add-one at))
-
-    -- on a bundle that has the goal already the value is not needed: with the value on bundle 1 instead a partition reaches the goal too
-    reaches-on-first : (goal c : ℕ) (l : List ℕ) → 1 ≤ bundles → goal ≤ loadOf loads c → goal ≤ leastLoaded bundles (loadOf loads) (value ∷ rest) (c ∷ l)
-        → goal ≤ leastLoaded bundles (loadOf loads) (value ∷ rest) (1 ∷ l)
-    reaches-on-first goal c l some has reached =
-        le-leastOf (λ d. loadOf loads d + bundleValue d (value ∷ rest) (1 ∷ l)) bundles goal some (λ d lo hi. ⊎-elim
-        (λ (e : d ≡ c). rw e (omega (arith, has)))
-        (λ ne. omega (
-          arith,
-          leastOf-le (λ d. loadOf loads d + bundleValue d (value ∷ rest) (c ∷ l)) bundles d lo hi,
-          ap (λ b. cond b value 0) (ne-eqb d c ne),
-        ))
-        (eq-or-ne d c))
-
-    -- so that a bundle in use that has the goal is passed over, as bundle 1 was tried before
-    pub walkedUpTo-wasted : (bundle : ℕ) → 1 ≤ bundle → bundle < used → used ≤ bundles → walkedUpTo bundle .best .goal ≤ loadOf loads (bundle + 1)
-        → walkedUpTo (bundle + 1) ≡ passing (length (growthFrom bundles (max used (bundle + 1)) (length rest))) (walkedUpTo bundle)
-    walkedUpTo-wasted bundle later in-use opened has =
-        let c = bundle + 1 in
-        let reach = leastLoaded bundles (loadOf loads) (value ∷ rest) in
-        let tried = walkedUpTo bundle in
-        let before = branches next (range 1 bundle) in
-        walkedUpTo-more bundle
-        ∙ ⊎-elim
-        (λ spent. let none : tried .allowance ≡ 0 = omega arith in
-        searched-spent reach (sets partition at) tried (branches next (c ∷ [])) none ∙ ap (searchOf (tried .best)) (omega arith))
-        (λ left. searched-idle reach (sets partition at) tried (branches next (c ∷ []))
-        (λ l m.
-        let b = branch-of next (c ∷ []) m in
-        let head : b .head ≡ c = only (b .head-in) in
-        let same : max used (b .head) ≡ max used 1 = omega arith in
-        let on-first = in-branches next (range 1 bundle) (in-range 1 bundle 1 (omega arith) (omega arith)) (subst (λ u. Mem (b .rest) (growthFrom bundles u (length rest))) same (b .rest-in)) in
-        let covered : reach (1 ∷ b .rest) < tried .best .goal =
-        rw (ap (λ s. s .best .goal) (searched-all reach (sets partition at) search before (omega arith))) (scan-covers reach (sets partition at) (search .best) before on-first) in
-        ⊎-elim (λ lt. lt)
-        (λ reached. absurd (omega (
-          arith,
-          covered,
-          reaches-on-first (tried .best .goal) c (b .rest) (omega arith) has
-              (subst (λ k. tried .best .goal ≤ reach k) (b .parts ∙ ap (λ d. d ∷ b .rest) head) reached),
-        )))
-        (lt-or-ge (reach l) (tried .best .goal)))
-        ∙ ap (λ k. passing k tried) (ap length (append-nil (map (λ l. c ∷ l) (next c))) ∙ length-map (next c) (λ l. c ∷ l)))
-        (lt-or-ge (tried .allowance) 1)
 
     -- the next value is laid
     pub walkable-next : (ceiling : ℕ) → Walkable (value ∷ rest) bundles at used loads ceiling → (bundle : ℕ) → bundle < min (used + 1) bundles → bundle < length loads

@@ -9,7 +9,7 @@ use native.Mathlib.Omega.{arith}
 use lib.ListN.{length, drop, drop-of-length-le, length-set}
 use Rattle.sheet.specs.Limits.{mostItems}
 use Rattle.cut.specs.internal.Pruning.{greatestValue}
-use Rattle.cut.proofs.pruning.Needed.{greatestValue-drop, FilledFrom, filledFrom-before}
+use Rattle.cut.proofs.pruning.Greatest.{greatestValue-drop, FilledFrom, filledFrom-before}
 use Rattle.cut.proofs.pruning.greatest_from_each.Statement.{statement}
 use Rattle.cut.proofs.pruning.greatest_from_each.Tie as tie
 

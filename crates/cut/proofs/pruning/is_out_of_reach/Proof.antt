@@ -6,7 +6,7 @@ use lib.ListN.{length}
 use borrow.Author.Tests.{lt-ltb, le-ltb}
 use Rattle.cut.specs.internal.Loads.{loadOf}
 use Rattle.cut.specs.internal.Pruning.{neededBy, needsMore}
-use Rattle.cut.proofs.pruning.Needed.{greatestValue-positive}
+use Rattle.cut.proofs.pruning.Greatest.{greatestValue-positive}
 use Rattle.cut.proofs.pruning.is_out_of_reach.Statement.{statement}
 use Rattle.cut.proofs.pruning.is_out_of_reach.Tie as tie
 

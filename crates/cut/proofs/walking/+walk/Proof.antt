@@ -18,8 +18,9 @@ use Rattle.cut.specs.internal.Loads.{loadOf}
 use Rattle.cut.specs.internal.Pruning.{GreatestFrom}
 use Rattle.cut.specs.internal.Scan.{passing}
 use Rattle.cut.specs.internal.Walk.{Walkable, countAt, walked}
-use Rattle.cut.proofs.pruning.Needed.{greatestFrom-next}
-use Rattle.cut.proofs.walking.Steps.{walkedUpTo, walked-spent, walked-out-of-reach, walked-end, walked-all, walkedUpTo-none, walkedUpTo-next, walkedUpTo-wasted, walkable-next}
+use Rattle.cut.proofs.pruning.Greatest.{greatestFrom-next}
+use Rattle.cut.proofs.walking.Steps.{walkedUpTo, walked-spent, walked-out-of-reach, walked-end, walked-all, walkedUpTo-none, walkedUpTo-next, walkable-next}
+use Rattle.cut.proofs.walking.Wasted.{walkedUpTo-wasted}
 use borrow.Fn.Kinds.{In}
 use borrow.Fn.PlainCycle.{Measures, is, falls, and}
 use Rattle.cut.proofs.walking.walk.Reads as walk
