@@ -14,7 +14,7 @@ pub use cutting::CutRow;
 #[cfg(feature = "division")]
 pub use dividing::divide;
 #[cfg(feature = "earlier")]
-pub use dividing::{divided, DivideTable};
+pub use dividing::DivideTable;
 #[cfg(feature = "exact")]
 pub use searching::search;
 #[cfg(feature = "earlier")]

@@ -25,6 +25,15 @@ pub fn number(items: usize, bundles: usize) -> u32 {
     counts(items, bundles)[items][0]
 }
 
+/// For tests: the powers of two below the number of growth layouts, and allowances about that number.
+#[cfg(test)]
+pub fn allowances(items: usize, bundles: usize) -> impl Iterator<Item = u32> {
+    use crate::cut::GREATEST_ALLOWANCE;
+    let number = number(items, bundles);
+    let below = (0..32).map(|bit| 1 << bit).chain([number - 1]).filter(move |a| *a < number);
+    below.filter(|allowance| *allowance > 0).chain([number, number + 1, GREATEST_ALLOWANCE])
+}
+
 #[cfg(test)]
 mod tests {
     use super::number;

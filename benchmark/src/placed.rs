@@ -1,6 +1,7 @@
-//! The entries of today's library and of an earlier one, each linked at four places. The same code takes
-//! up to a fifth more time when it begins at another number of bytes after a multiple of 64, and a linker
-//! leaves that number to chance. So both libraries are timed at 0, 16, 32 and 48, and the mean counts.
+//! The entries of today's library and of an earlier one, which has the same, each linked at four places. The
+//! same code takes up to a fifth more time when it begins at another number of bytes after a multiple of 64,
+//! and a linker leaves that number to chance. So both libraries are timed at 0, 16, 32 and 48, and the mean
+//! counts.
 
 use crate::boundary::{self, CutRow, DivideTable, ShareOut, WriteText, Written};
 use crate::cut::{Cut, Mark, Row, GREATEST_ALLOWANCE};
@@ -8,12 +9,12 @@ use crate::division::{Division, Table};
 
 pub const PLACES: usize = 4;
 
-/// Each entry of a library at the four places; the types are those of the three that have an allowance today.
-pub struct Library<C, D, S> {
-    pub cut_row: [C; PLACES],
-    pub divide_table: [D; PLACES],
-    pub shareout_text: [S; PLACES],
-    pub strict_text: [WriteText; PLACES],
+/// Each entry of a library at the four places.
+pub struct Library {
+    cut_row: [CutRow; PLACES],
+    divide_table: [DivideTable; PLACES],
+    shareout_text: [ShareOut; PLACES],
+    strict_text: [WriteText; PLACES],
 }
 
 /// An entry at the four places, by the prefix of its name, its name and the types of what it is given.
@@ -33,19 +34,26 @@ macro_rules! placed {
     }};
 }
 
-pub(crate) use placed;
+/// A library, by the prefix of its entries' names.
+macro_rules! library {
+    ($prefix:literal) => {
+        Library {
+            cut_row: placed!($prefix "cut_row"
+                (*const Mark, u16, usize, u32, *mut u64, *mut u8, *mut u32)),
+            divide_table: placed!($prefix "divide_table"
+                (*const Mark, usize, usize, u32, *mut u8, *mut u16, *mut u8)),
+            shareout_text: placed!($prefix "shareout_text"
+                (*const u8, usize, u32, *mut u8, usize, *mut usize)),
+            strict_text: placed!($prefix "strict_text"
+                (*const u8, usize, *mut u8, usize, *mut usize)),
+        }
+    };
+}
 
-pub const TODAY: Library<CutRow, DivideTable, ShareOut> = Library {
-    cut_row: placed!("" "cut_row"
-        (*const Mark, u16, usize, u32, *mut u64, *mut u8, *mut u32)),
-    divide_table: placed!("" "divide_table"
-        (*const Mark, usize, usize, u32, *mut u8, *mut u16, *mut u8)),
-    shareout_text: placed!("" "shareout_text"
-        (*const u8, usize, u32, *mut u8, usize, *mut usize)),
-    strict_text: placed!("" "strict_text" (*const u8, usize, *mut u8, usize, *mut usize)),
-};
+pub const TODAY: Library = library!("");
+pub const EARLIER: Library = library!("earlier_");
 
-impl Library<CutRow, DivideTable, ShareOut> {
+impl Library {
     /// Cuts all twelve pieces.
     pub fn cut(&self, place: usize, row: &Row, bundles: usize) -> Cut {
         // SAFETY: the entry cuts a row of twelve marks.
@@ -63,9 +71,7 @@ impl Library<CutRow, DivideTable, ShareOut> {
         // SAFETY: the entry reads a text and fills a lent buffer.
         unsafe { boundary::share_out(self.shareout_text[place], text, buffer) }
     }
-}
 
-impl<C, D, S> Library<C, D, S> {
     /// Writes the strict text of the sheet that a text holds.
     pub fn write_strict(&self, place: usize, text: &str, buffer: &mut [u8]) -> Written {
         // SAFETY: the entry reads a text and fills a lent buffer.

@@ -3,7 +3,7 @@
 
 use crate::cut::{ALL_ITEMS, MOST_ITEMS};
 use crate::division::{bundles_of, divide, items, worth, Table, MOST_AGENTS};
-use crate::pruned;
+use crate::share_first;
 
 /// The sheet in the strict layout.
 pub fn sheet(table: &Table) -> String {
@@ -29,7 +29,7 @@ pub fn division(table: &Table) -> String {
     let counts = format!("(yards {MOST_AGENTS}) (pieces {MOST_ITEMS})");
     let mut text = format!("(division {counts} (grade {}))\n", division.grade);
     for (agent, row) in table.iter().enumerate() {
-        let cut = pruned::cut(row, MOST_AGENTS);
+        let cut = share_first::cut(row, MOST_AGENTS);
         let pile = division.bundles[agent];
         let piles = bundles_of(&cut, ALL_ITEMS, MOST_AGENTS);
         text += &format!(

@@ -2,9 +2,8 @@
 
 use super::compare;
 use crate::cut::{Row, MOST_BUNDLES};
-use crate::earlier::EARLIER;
 use crate::families::{rows, FAMILIES, ROWS};
-use crate::placed::TODAY;
+use crate::placed::{EARLIER, TODAY};
 
 pub fn print_table() {
     println!("\nCutting twelve pieces: microseconds per row, mean over {ROWS} rows\n");
@@ -17,7 +16,7 @@ pub fn print_table() {
 
 /// One line for each number of piles.
 fn print_lines(name: &str, rows: &[Row]) {
-    for bundles in 2..=MOST_BUNDLES {
+    for bundles in 1..=MOST_BUNDLES {
         let by_earlier = |place, row: &Row| EARLIER.cut(place, row, bundles);
         let by_today = |place, row: &Row| TODAY.cut(place, row, bundles);
         println!("| {name} | {bundles} | {} |", compare(rows, &by_earlier, &by_today));

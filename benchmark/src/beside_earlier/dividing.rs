@@ -2,9 +2,8 @@
 
 use super::compare;
 use crate::division::Table;
-use crate::earlier::EARLIER;
 use crate::families::{tables, FAMILIES};
-use crate::placed::TODAY;
+use crate::placed::{EARLIER, TODAY};
 
 /// Tables of each family.
 const TABLES: usize = 20;

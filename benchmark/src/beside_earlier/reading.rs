@@ -5,9 +5,8 @@ use std::cell::RefCell;
 use super::compare;
 use crate::boundary::Written;
 use crate::division::Table;
-use crate::earlier::EARLIER;
 use crate::families::{tables, FAMILIES, ROWS};
-use crate::placed::{PLACES, TODAY};
+use crate::placed::{EARLIER, PLACES, TODAY};
 use crate::texts;
 
 /// As long as the longest text that is read.

@@ -13,18 +13,16 @@ pub type DivideTable =
 /// # Safety
 /// The entry is as `DivideTable` says.
 pub unsafe fn divide(entry: DivideTable, table: &Table) -> Division {
-    divided(table, |marks, Division { grade, bundles, cutters }| {
-        let (agents, items) = (table.len(), table[0].len());
-        let (bundles, cutters) = (bundles.as_mut_ptr(), cutters.as_mut_ptr());
-        // SAFETY: the pointers are those of 72 marks in a row, one grade, six sets and six places.
-        unsafe { entry(marks, agents, items, GREATEST_ALLOWANCE, grade, bundles, cutters) }
-    })
-}
-
-/// What a call stores of a full table's division; the places of the cutters after the last round stay 0.
-pub fn divided(table: &Table, call: impl FnOnce(*const Mark, &mut Division) -> u8) -> Division {
+    // The places of the cutters after the last round stay 0.
     let mut division = Division { grade: 0, bundles: [0; MOST_AGENTS], cutters: [0; MOST_AGENTS] };
-    let refusal = call(table.as_flattened().as_ptr(), &mut division);
+    let Division { grade, bundles, cutters } = &mut division;
+    let (agents, items) = (table.len(), table[0].len());
+    let (bundles, cutters) = (bundles.as_mut_ptr(), cutters.as_mut_ptr());
+    // SAFETY: the pointers are those of 72 marks in a row, one grade, six sets and six places.
+    let refusal = unsafe {
+        let marks = table.as_flattened().as_ptr();
+        entry(marks, agents, items, GREATEST_ALLOWANCE, grade, bundles, cutters)
+    };
     assert_eq!(refusal, 0, "the library refuses {table:?}");
     division
 }

@@ -3,7 +3,7 @@
 use super::Instance;
 use crate::cut::MOST_ITEMS;
 use crate::division::{Table, MOST_AGENTS};
-use crate::families::{rows, tables, FAMILIES};
+use crate::families::{rows, tables, Rule, FAMILIES};
 
 /// Tables of one size that are timed together.
 pub struct Group {
@@ -21,15 +21,20 @@ impl Group {
 /// The numbers of agents that are timed.
 const AGENTS: [usize; 3] = [MOST_AGENTS, 4, 3];
 
+/// The families whose tables are searched: the first eight.
+fn families() -> &'static [(&'static str, Rule)] {
+    &FAMILIES[..8]
+}
+
 /// The tables of each family.
 pub fn of_families() -> Vec<Group> {
-    FAMILIES.iter().flat_map(|(name, rule)| with_each_count(name, &tables(*rule))).collect()
+    families().iter().flat_map(|(name, rule)| with_each_count(name, &tables(*rule))).collect()
 }
 
 /// For each row of each family the table whose rows are all that row.
 pub fn of_equal_rows() -> Vec<Group> {
     let equal = |rule| rows(rule).into_iter().map(|row| [row; MOST_AGENTS]).collect::<Vec<Table>>();
-    FAMILIES.iter().flat_map(|(name, rule)| with_each_count(name, &equal(*rule))).collect()
+    families().iter().flat_map(|(name, rule)| with_each_count(name, &equal(*rule))).collect()
 }
 
 /// The same tables with each number of agents; the rows after the last agent are not in use.

@@ -2,7 +2,7 @@
 
 use crate::cut::{Row, ALL_ITEMS, MOST_ITEMS};
 use crate::division::{worth, Table, MOST_AGENTS};
-use crate::pruned;
+use crate::share_first;
 
 /// A table of which the first rows and the first places of each row are in use.
 #[derive(Clone, Debug)]
@@ -26,9 +26,9 @@ impl Instance {
         &self.table[..self.agents]
     }
 
-    /// The maximin share of each agent, by the pruned walk.
+    /// The maximin share of each agent, cut in the library's way.
     pub fn shares(&self) -> Vec<u64> {
-        let share = |row: &Row| pruned::cut(&row[..self.items], self.agents).share;
+        let share = |row: &Row| share_first::cut(&row[..self.items], self.agents).share;
         self.rows().iter().map(share).collect()
     }
 
