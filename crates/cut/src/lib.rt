@@ -3,16 +3,14 @@
 // The search walks the growth partitions depth first and leaves a branch that cannot be better. Where the allowance is enough it works out
 // the share first, which does not depend on the order of the values, and then looks for the first partition that reaches it.
 ghost use mathlib.Core.Path.{_≡_};
-ghost use mathlib.Core.Bool.{cond};
-ghost use Prim.Native.Nat.{_≤_};
+ghost use Prim.Native.Nat.{_≤_, _<_};
 ghost use lib.ListN.{length, replicate};
 ghost use Rattle.lists.specs.Sums.{total};
 ghost use Rattle.sheet.specs.Limits.{mostItems, greatestSum};
 ghost use Rattle.sheet.specs.Answers.{refused, accepted};
 ghost use Rattle.growth.specs.Growth.{growths};
-ghost use Rattle.cut.specs.Outcome.{placed, outcome, wholeCut, found, cutting};
+ghost use Rattle.cut.specs.Outcome.{placed, outcome, wholeCut, stoppedCut, found, cutting};
 ghost use Rattle.cut.specs.internal.Walk.{Allowed, Counted};
-ghost use Rattle.cut.specs.declared.Answer.the-variants as answers;
 use crate::sharing::mean;
 use crate::sharing::share_of;
 use crate::sorting::falling;
@@ -61,28 +59,16 @@ fn refuse(number: u8) -> Outcome
     }
 }
 
-// The least bundle that was found, as the share where the allowance was enough.
-fn answer_with(least: u64, enough: bool) -> Answer
-    ensures { λ r. ⌜ r ≡ cond enough (answers.Share least) (answers.Stopped least) ⌝ }
+// The cut that its allowance stops: one walk over the growth partitions in dictionary order, as far as the allowance goes.
+fn cut_stopped(values: &[u64], counts: &Counts, bundles: usize, allowance: u32) -> Outcome
+    requires { ⌜ Allowed (now values) bundles allowance × Counted bundles (length (now values)) (now counts) × (allowance < growths bundles (length (now values))) ⌝ }
+    ensures { λ r. ⌜ r ≡ outcome (accepted (stoppedCut bundles (now (values .entry)) allowance)) ⌝ }
 {
-    if enough {
-        return Answer::Share(least);
-    }
-    Answer::Stopped(least)
-}
-
-// The cut by one walk over the growth partitions in dictionary order, as far as the allowance goes.
-fn cut_in_order(values: &[u64], counts: &Counts, bundles: usize, allowance: u32) -> Outcome
-    requires { ⌜ Allowed (now values) bundles allowance × Counted bundles (length (now values)) (now counts) ⌝ }
-    ensures { λ r. ⌜ r ≡ outcome (accepted (found bundles (now (values .entry)) allowance)) ⌝ }
-{
-    let row = counts[values.len()];
-    let enough = row[0] <= allowance;
     let end = walk_from(values, counts, bundles, mean(values, bundles), 0, allowance);
     let best = end.best;
     let partition = best.partition;
     Outcome {
-        answer: answer_with(best.goal - 1, enough),
+        answer: Answer::Stopped(best.goal - 1),
         partition,
         count: allowance - end.allowance,
     }
@@ -144,7 +130,7 @@ fn cut_values(values: &[u64], bundles: usize, allowance: u32) -> Outcome
     let counts = counts_for(values.len(), bundles);
     let row = counts[values.len()];
     if allowance < row[0] {
-        return cut_in_order(values, &counts, bundles, allowance);
+        return cut_stopped(values, &counts, bundles, allowance);
     }
     cut_by_share(values, &counts, bundles, allowance)
 }

@@ -14,15 +14,12 @@ use crate::walking::walk_from;
 use growth::Counts;
 use sheet::Sheet;
 
-// No sum of values is greater.
-const GREATEST_SUM: u64 = Sheet::SET_BITS as u64 * (Sheet::GREATEST_MARK + 1);
-
 // The mean of the bundles, which no least bundle exceeds.
 pub(crate) fn mean(values: &[u64], bundles: usize) -> u64
     requires { ⌜ (total (now values) ≤ greatestSum) × (1 ≤ bundles) × (bundles ≤ mostAgents) ⌝ }
     ensures { λ r. ⌜ r ≡ total (now (values .entry)) / bundles ⌝ }
 {
-    supplied(values, GREATEST_SUM) / bundles as u64
+    supplied(values, Sheet::GREATEST_SUM) / bundles as u64
 }
 
 // The least bundle once each value in turn is put on one of the lightest bundles: a quick figure that the share reaches.

@@ -17,9 +17,6 @@ pub struct Terms {
 // A margin for each agent.
 pub type Margins = [i64; Sheet::AGENTS];
 
-// No sum of the marks of a set is greater.
-const GREATEST_SUM: u64 = Sheet::SET_BITS as u64 * (Sheet::GREATEST_MARK + 1);
-
 // The terms for a number of agents, which is cut to the limit of a sheet; none counts as one.
 pub fn terms_for(agents: usize) -> Terms
     ensures { λ r. ⌜ r ≡ termsFor (min agents mostAgents) ⌝ }
@@ -37,10 +34,10 @@ pub fn terms_for(agents: usize) -> Terms
 fn limited(amount: u64) -> u64
     ensures { λ r. ⌜ r ≡ min amount greatestSum ⌝ }
 {
-    if amount < GREATEST_SUM {
+    if amount < Sheet::GREATEST_SUM {
         amount
     } else {
-        GREATEST_SUM
+        Sheet::GREATEST_SUM
     }
 }
 

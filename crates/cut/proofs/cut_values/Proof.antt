@@ -1,8 +1,8 @@
 -- `cut::cut_values` meets its contract: one bundle has one growth partition, and else the table says whether the allowance is enough.
 -- Assumes nothing.
-use mathlib.Core.Path.{_≡_, sym, ap, ap₂, subst, _∙_}
+use mathlib.Core.Path.{_≡_, sym, ap, ap₂, _∙_}
 use mathlib.Core.List.{[]}
-use Prim.Native.Nat.{_≤_, min}
+use Prim.Native.Nat.{_≤_, _<_, min}
 use native.Mathlib.Omega.{arith}
 use lib.ListN.{length, getD}
 use borrow.Author.Needs.{needs}
@@ -13,7 +13,7 @@ use Rattle.growth.specs.Counts.{countTable}
 use Rattle.growth.proofs.Table.{countTable-counts}
 use Rattle.cut.specs.Outcome.{found, outcome}
 use Rattle.cut.specs.internal.Walk.{Counted}
-use Rattle.cut.proofs.Allowance.{found-whole}
+use Rattle.cut.proofs.Allowance.{found-whole, found-stopped}
 use Rattle.cut.proofs.One.{growths-one}
 use Rattle.cut.proofs.cut_values.Statement.{statement}
 use Rattle.cut.proofs.cut_values.Tie as tie
@@ -51,19 +51,27 @@ counted c left used few in-use =
     let items : min k mostItems ≡ k = omega (arith, s .pre .few) in
     ap (λ counts. getD (getD counts left []) used 0) (c .counts-for .ensures ∙ ap₂ countTable bundles items) ∙ countTable-counts n k left used few in-use
 
-cut-in-order-requires : tie.Need-cut-in-order-requires
-cut-in-order-requires c κs = let counting = c .before .before .before in (counting .before .before .before .pre, counted counting)
+-- the number of growth partitions stands where it is read
+number-read : (c : tie.After-counts-for) → let a = c .before .before .before .args in
+    getD (getD (c .counts-for .result) (length (a .values .now)) []) 0 0 ≡ growths (a .bundles) (length (a .values .now))
+unfolding growths
+number-read c = counted c (length (c .before .before .before .args .values .now)) 0 (omega arith) (omega arith)
+
+-- there are more than the allowance
+is-short : (c : tie.Then2) → let a = c .before .before .before .before .before .args in a .allowance < growths (a .bundles) (length (a .values .now))
+is-short c = omega (arith, number-read (c .before .before), c .if2 .taken)
+
+-- or not
+is-enough : (c : tie.Else2) → let a = c .before .before .before .before .before .args in growths (a .bundles) (length (a .values .now)) ≤ a .allowance
+is-enough c = omega (arith, number-read (c .before .before), c .if2 .left)
+
+cut-stopped-requires : tie.Need-cut-stopped-requires
+cut-stopped-requires c κs = let counting = c .before .before .before in (counting .before .before .before .pre, counted counting, is-short (c .before))
 
 returns-2 : tie.Need-returns-2
-returns-2 c = search needs
-
--- the number of growth partitions stands where it is read
-is-enough : (c : tie.Else2) → let a = c .before .before .before .before .before .args in growths (a .bundles) (length (a .values .now)) ≤ a .allowance
-unfolding growths
-is-enough c =
-    let counting = c .before .before in
-    let a = counting .before .before .before .args in
-    subst (λ number. number ≤ a .allowance) (counted counting (length (a .values .now)) 0 (omega arith) (omega arith)) (c .if2 .left)
+returns-2 c =
+    let a = c .before .before .before .before .before .before .before .args in
+    c .cut-stopped .ensures ∙ ap (λ found. outcome (accepted found)) (sym (found-stopped (a .bundles) (a .values .now) (a .allowance) (is-short (c .before .before))))
 
 cut-by-share-requires : tie.Need-cut-by-share-requires
 cut-by-share-requires c κs = let counting = c .before .before .before in (counting .before .before .before .pre, counted counting, is-enough (c .before))
@@ -83,7 +91,7 @@ cut-values-spec =
     mul-row
     array-copy-out-row
     array-read-if2
-    cut-in-order-requires
+    cut-stopped-requires
     returns-2
     cut-by-share-requires
     returns-3)

@@ -1,12 +1,12 @@
 -- Values stored in places, one after the other or as many as there are places, and lists in places under a map. Assumes nothing.
-use mathlib.Core.Path.{_≡_, refl, sym, ap, ap₂, subst, _∙_}
+use mathlib.Core.Path.{_≡_, refl, sym, ap₂, subst, _∙_}
 use mathlib.Core.Logic.{⊎-elim}
 use mathlib.Core.List.{List, [], _∷_, map, map-append, append-nil}
 use Prim.Native.Nat.{ℕ, zero, suc, _+_, _-_, _≤_, _<_}
 use native.Mathlib.Nat.{zero-add, eq-or-lt-of-le}
 use native.Mathlib.Omega.{arith}
 use lib.ListN.{length, getD, drop-of-length-le, replicate, set as store, length-map}
-use lib.Seq.{sets, sets-eq, getD-set-same, getD-set-other, set-getD}
+use lib.Seq.{sets, sets-eq, getD-set-same, getD-set-other, set-getD, set-set}
 use Rattle.lists.specs.Lists.{padded}
 use Rattle.lists.specs.Sums.{total}
 
@@ -19,16 +19,9 @@ module _ {A : Type 0} (P : ℕ → A → Type 0) (d : A) where
       (λ (below : s < i). subst (P s) (sym (getD-set-other xs i s v d (λ e. omega arith))) (each s below))
       (eq-or-lt-of-le (omega arith))
 
-module _ {A : Type 0} where
-  -- of two stores in one place the later counts
-  pub store-store : (xs : List A) (i : ℕ) (x y : A) → store (store xs i x) i y ≡ store xs i y
-  store-store [] i x y = refl
-  store-store (z ∷ xs) zero x y = refl
-  store-store (z ∷ xs) (suc i) x y = ap (λ l. z ∷ l) (store-store xs i x y)
-
-  -- what stood in a place is stored there again
-  pub store-back : (xs : List A) (i : ℕ) (x d : A) → store (store xs i x) i (getD xs i d) ≡ xs
-  store-back xs i x d = store-store xs i x (getD xs i d) ∙ set-getD xs i d
+-- what stood in a place is stored there again
+pub store-back : {A : Type 0} (xs : List A) (i : ℕ) (x d : A) → store (store xs i x) i (getD xs i d) ≡ xs
+store-back xs i x d = set-set xs i x (getD xs i d) ∙ set-getD xs i d
 
 -- one number stored in the place of another
 pub total-store : (f : ℕ → ℕ) (xs : List ℕ) (i x : ℕ) → i < length xs → total (map f (store xs i x)) + f (getD xs i 0) ≡ total (map f xs) + f x

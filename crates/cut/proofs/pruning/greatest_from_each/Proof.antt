@@ -2,19 +2,19 @@
 -- values from i on. Assumes nothing.
 use mathlib.Core.Path.{_≡_, refl, sym, ap, subst, _∙_}
 use mathlib.Core.Logic.{⊎-elim}
-use mathlib.Core.List.{[]}
+use mathlib.Core.List.{[], _∷_}
 use Prim.Native.Nat.{_+_, _-_, _≤_}
-use native.Mathlib.Nat.{zero-add}
 use native.Mathlib.Omega.{arith}
-use lib.ListN.{length, drop, drop-of-length-le, length-set}
+use lib.ListN.{length, getD, drop, drop-of-length-le, replicate, set, length-set}
+use Rattle.lists.proofs.places.Passing.{drop-next}
 use Rattle.sheet.specs.Limits.{mostItems}
-use Rattle.cut.specs.internal.Pruning.{greatestValue}
-use Rattle.cut.proofs.pruning.Greatest.{greatestValue-drop, FilledFrom, filledFrom-before}
+use Rattle.cut.specs.internal.Pruning.{greatestValue, GreatestFrom}
+use Rattle.cut.proofs.pruning.Greatest.{greatestFrom-before}
 use Rattle.cut.proofs.pruning.greatest_from_each.Statement.{statement}
 use Rattle.cut.proofs.pruning.greatest_from_each.Tie as tie
 
 abbrev Inv-loop : tie.InvT-loop
-Inv-loop values greatest₀ most₀ i₀ greatest most i = (i ≤ length values) × (length greatest ≡ mostItems) × (most ≡ greatestValue (drop i values)) × FilledFrom i values greatest
+Inv-loop values greatest₀ most₀ i₀ greatest most i = (i ≤ length values) × (length greatest ≡ mostItems) × (most ≡ greatestValue (drop i values)) × GreatestFrom i (drop i values) greatest
 
 abbrev μ-loop : tie.MeasureT-loop
 μ-loop values greatest₀ most₀ i₀ greatest most i = i
@@ -23,7 +23,7 @@ loop-holds : tie.Need-loop-holds Inv-loop μ-loop
 loop-holds c =
     let values = c .args .values .now in
     let none : drop (length values) values ≡ [] = drop-of-length-le values {i = length values} (omega arith) in
-    (omega arith, refl, sym (ap greatestValue none), λ j low inside. absurd (omega arith))
+    (omega arith, refl, sym (ap greatestValue none), subst (λ l. GreatestFrom (length values) l (replicate mostItems 1)) (sym none) (λ i inside. absurd (omega arith)))
 
 sub-i : tie.Need-sub-i Inv-loop μ-loop
 sub-i c = omega arith
@@ -54,18 +54,25 @@ loop-again c =
     let l = c .before .before .before .loop in
     let values = c .before .before .before .before .args .values .now in
     let k = l .i - 1 in
+    let most = c .if1 .most in
     let after : k + 1 ≡ l .i = omega arith in
-    let step = greatestValue-drop values k (omega arith) in
+    let now-first = drop-next values k (omega arith) in
     let later = ap (λ j. greatestValue (drop j values)) after in
-    let is : c .if1 .most ≡ greatestValue (drop k values) = ⊎-elim (λ w. omega (arith, step, later)) (λ w. omega (arith, step, later)) (c .if1 .came) in (
+    let is : most ≡ greatestValue (getD values k 0 ∷ drop (k + 1) values) = ⊎-elim (λ w. omega (arith, later)) (λ w. omega (arith, later)) (c .if1 .came) in
+    let from = subst (λ j. GreatestFrom j (drop j values) (l .greatest)) (sym after) (l .inv .3) in (
       omega arith,
-      length-set (l .greatest) k (c .if1 .most) ∙ l .inv .1,
-      is,
-      filledFrom-before values (l .greatest) k (c .if1 .most) (omega (arith, l .inv .1)) (subst (λ j. FilledFrom j values (l .greatest)) (sym after) (l .inv .3)) is,
+      length-set (l .greatest) k most ∙ l .inv .1,
+      is ∙ ap greatestValue (sym now-first),
+      subst (λ rest. GreatestFrom k rest (set (l .greatest) k most)) (sym now-first)
+          (greatestFrom-before k (getD values k 0) (drop (k + 1) values) (l .greatest) most (omega (arith, l .inv .1)) from is),
     )
 
 returns : tie.Need-returns Inv-loop μ-loop
-returns c = λ i inside. rw (zero-add i) (c .before .loop .inv .3 i (omega arith) inside)
+returns c =
+    let l = c .before .loop in
+    let values = c .before .before .args .values .now in
+    let all : l .i ≡ 0 = omega arith in
+    subst (λ i. GreatestFrom i (drop i values) (l .greatest)) all (l .inv .3)
 
 pub greatest-from-each-spec : {M : Type 1} → statement M
 greatest-from-each-spec =

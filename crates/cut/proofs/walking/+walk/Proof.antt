@@ -8,9 +8,10 @@ use Prim.Native.Nat.{ℕ, _+_, _-_, _≤_, _<_, min, max}
 use native.Mathlib.Nat.{add-zero}
 use native.Mathlib.Omega.{arith}
 use lib.ListN.{length, getD, take, drop, set}
+use lib.Seq.{set-set}
 use Rattle.lists.specs.Sums.{total}
 use Rattle.lists.proofs.places.Places.{nth-next}
-use Rattle.lists.proofs.places.Stores.{store-store, store-back}
+use Rattle.lists.proofs.places.Stores.{store-back}
 use Rattle.lists.proofs.places.Passing.{empty, first-and-rest}
 use Rattle.lists.proofs.sums.LeastOf.{leastOf-le}
 use Rattle.growth.specs.Growth.{growthFrom}
@@ -267,7 +268,7 @@ module _ (t : ℕ) where
         ⊎-elim (λ w. w .2 ∙ same-loads) (λ w. w .4 ∙ store-back loaded bundle (getD loaded bundle 0 + next l) 0 ∙ same-loads) (c .if4 .came),
         λ d. ⊎-elim
             (λ w. ap (λ places. set places (a .at) d) (w .3) ∙ same-places d)
-            (λ w. ap (λ places. set places (a .at) d) (w .5) ∙ store-store longer (a .at) (bundle + 1) d ∙ same-places d)
+            (λ w. ap (λ places. set places (a .at) d) (w .5) ∙ set-set longer (a .at) (bundle + 1) d ∙ same-places d)
             (c .if4 .came),
         ⊎-elim
             (λ w.
