@@ -19,9 +19,9 @@ use Rattle.sheet.proofs.Limits.{within-bounds}
 use Rattle.sheet.proofs.sets.Ranges.{names-only-below}
 use Rattle.growth.specs.Growth.{growthPartitions, growths}
 use Rattle.growth.proofs.Growths.{growths-positive}
-use Rattle.cut.specs.Share.{leastBundle, maximinShare, maximinPartition}
+use Rattle.maximin.specs.Share.{leastBundle, maximinShare, maximinPartition}
 use Rattle.cut.specs.Outcome.{Found, wholeCut, lookedAt, stoppedCut, found, namesItems, cutting, leastFound, leastAnswered}
-use Rattle.cut.proofs.growth.Share as growth
+use Rattle.walking.proofs.growth.Share as growth
 
 module _ (n : ℕ) (values : List ℕ) where
   -- the best over the growth partitions is the maximin share

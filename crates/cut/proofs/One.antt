@@ -9,7 +9,7 @@ use Rattle.lists.specs.Lists.{range}
 use Rattle.lists.specs.Sums.{total}
 use Rattle.lists.specs.Dictionary.{branches, greatest, firstBest}
 use Rattle.growth.specs.Growth.{growthFrom, growths}
-use Rattle.cut.specs.Share.{bundleValue, leastBundle, maximinShare, maximinPartition}
+use Rattle.maximin.specs.Share.{bundleValue, leastBundle, maximinShare, maximinPartition}
 use Rattle.cut.proofs.Allowance.{greatest-growth, firstBest-growth}
 
 -- so many items, all in bundle 1

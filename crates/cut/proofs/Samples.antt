@@ -7,7 +7,7 @@ use Rattle.sheet.specs.Answers.{Answer, refused, accepted}
 use Rattle.sheet.specs.Sets.{itemsOf}
 use Rattle.sheet.specs.Valuations.{valuesOf}
 use Rattle.growth.specs.Growth.{growths}
-use Rattle.cut.specs.Share.{maximinShare, maximinPartition}
+use Rattle.maximin.specs.Share.{maximinShare, maximinPartition}
 use Rattle.cut.specs.Outcome.{Found, shared, stopped, found, cutting}
 
 -- a valuation, a set, a number of bundles and an allowance, with what the cut answers

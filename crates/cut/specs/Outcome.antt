@@ -11,7 +11,7 @@ use Rattle.sheet.specs.Answers.{Answer, refused, accepted, require}
 use Rattle.sheet.specs.Sets.{itemsOf}
 use Rattle.sheet.specs.Valuations.{valuesOf}
 use Rattle.growth.specs.Growth.{growthPartitions, growths}
-use Rattle.cut.specs.Share.{leastBundle, maximinShare, maximinPartition}
+use Rattle.maximin.specs.Share.{leastBundle, maximinShare, maximinPartition}
 use Rattle.cut.specs.declared.Answer.the-variants.{Refused, Share, Stopped}
 use Rattle.cut.specs.declared.Outcome.{Outcome}
 

@@ -10,23 +10,19 @@ ghost use Rattle.sheet.specs.Limits.{mostItems, greatestSum};
 ghost use Rattle.sheet.specs.Answers.{refused, accepted};
 ghost use Rattle.growth.specs.Growth.{growths};
 ghost use Rattle.cut.specs.Outcome.{placed, outcome, wholeCut, stoppedCut, found, cutting};
-ghost use Rattle.cut.specs.internal.Walk.{Allowed, Counted};
+ghost use Rattle.cut.specs.internal.Allowed.{Allowed};
 use crate::sharing::mean;
 use crate::sharing::share_of;
 use crate::sorting::falling;
-use crate::walking::walk_from;
-use growth::Counts;
-use growth::counts_for;
+use growth::count;
 use sheet::Row;
 use sheet::Sheet;
 use sheet::is_within;
 use sheet::valuing::values_of;
+use walking::find;
 
-mod loads;
-mod pruning;
 mod sharing;
 mod sorting;
-mod walking;
 
 // The share; where the allowance stopped the cut, the best least bundle; or the number of the reason why the cut is refused.
 pub enum Answer {
@@ -60,11 +56,11 @@ fn refuse(number: u8) -> Outcome
 }
 
 // The cut that its allowance stops: one walk over the growth partitions in dictionary order, as far as the allowance goes.
-fn cut_stopped(values: &[u64], counts: &Counts, bundles: usize, allowance: u32) -> Outcome
-    requires { ⌜ Allowed (now values) bundles allowance × Counted bundles (length (now values)) (now counts) × (allowance < growths bundles (length (now values))) ⌝ }
+fn cut_stopped(values: &[u64], bundles: usize, allowance: u32) -> Outcome
+    requires { ⌜ Allowed (now values) bundles allowance × (allowance < growths bundles (length (now values))) ⌝ }
     ensures { λ r. ⌜ r ≡ outcome (accepted (stoppedCut bundles (now (values .entry)) allowance)) ⌝ }
 {
-    let end = walk_from(values, counts, bundles, mean(values, bundles), 0, allowance);
+    let end = find(values, bundles, mean(values, bundles), 0, allowance);
     let best = end.best;
     let partition = best.partition;
     Outcome {
@@ -76,14 +72,14 @@ fn cut_stopped(values: &[u64], counts: &Counts, bundles: usize, allowance: u32) 
 
 // The cut where the allowance is enough: the share first, over the values in falling order, and then a walk for the first partition that
 // reaches it, which ends there.
-fn cut_by_share(values: &[u64], counts: &Counts, bundles: usize, allowance: u32) -> Outcome
-    requires { ⌜ Allowed (now values) bundles allowance × Counted bundles (length (now values)) (now counts) × (growths bundles (length (now values)) ≤ allowance) ⌝ }
+fn cut_by_share(values: &[u64], bundles: usize, allowance: u32) -> Outcome
+    requires { ⌜ Allowed (now values) bundles allowance × (growths bundles (length (now values)) ≤ allowance) ⌝ }
     ensures { λ r. ⌜ r ≡ outcome (accepted (wholeCut bundles (now (values .entry)))) ⌝ }
 {
     let sorted = falling(values);
     let in_falling_order = &sorted[..values.len()];
-    let share = share_of(in_falling_order, counts, bundles, allowance);
-    let end = walk_from(values, counts, bundles, share, share, allowance);
+    let share = share_of(in_falling_order, bundles, allowance);
+    let end = find(values, bundles, share, share, allowance);
     let best = end.best;
     let partition = best.partition;
     Outcome {
@@ -127,12 +123,10 @@ fn cut_values(values: &[u64], bundles: usize, allowance: u32) -> Outcome
     if bundles == 1 {
         return cut_in_one(values);
     }
-    let counts = counts_for(values.len(), bundles);
-    let row = counts[values.len()];
-    if allowance < row[0] {
-        return cut_stopped(values, &counts, bundles, allowance);
+    if allowance < count(values.len(), bundles) {
+        return cut_stopped(values, bundles, allowance);
     }
-    cut_by_share(values, &counts, bundles, allowance)
+    cut_by_share(values, bundles, allowance)
 }
 
 // The share of the items of `set` in `bundles` bundles, by the values of `valuation`, and the first partition in dictionary order

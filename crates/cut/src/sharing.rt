@@ -5,14 +5,13 @@ ghost use lib.ListN.{length};
 ghost use Rattle.lists.specs.Sums.{total};
 ghost use Rattle.sheet.specs.Limits.{mostAgents, greatestSum};
 ghost use Rattle.growth.specs.Growth.{growths};
-ghost use Rattle.cut.specs.Share.{maximinShare};
-ghost use Rattle.cut.specs.internal.Walk.{Allowed, Counted};
-use crate::loads::least;
-use crate::loads::lightest;
-use crate::pruning::supplied;
-use crate::walking::walk_from;
-use growth::Counts;
+ghost use Rattle.maximin.specs.Share.{maximinShare};
+ghost use Rattle.cut.specs.internal.Allowed.{Allowed};
+use reach::loads::least;
+use reach::loads::lightest;
+use reach::pruning::supplied;
 use sheet::Sheet;
+use walking::find;
 
 // The mean of the bundles, which no least bundle exceeds.
 pub(crate) fn mean(values: &[u64], bundles: usize) -> u64
@@ -38,13 +37,13 @@ fn deal(values: &[u64], bundles: usize) -> u64
 }
 
 // The share: a walk for a least bundle above the quick figure.
-pub(crate) fn share_of(values: &[u64], counts: &Counts, bundles: usize, allowance: u32) -> u64
-    requires { ⌜ Allowed (now values) bundles allowance × Counted bundles (length (now values)) (now counts) × (growths bundles (length (now values)) ≤ allowance) ⌝ }
+pub(crate) fn share_of(values: &[u64], bundles: usize, allowance: u32) -> u64
+    requires { ⌜ Allowed (now values) bundles allowance × (growths bundles (length (now values)) ≤ allowance) ⌝ }
     ensures { λ r. ⌜ r ≡ maximinShare bundles (now (values .entry)) ⌝ }
 {
     let ceiling = mean(values, bundles);
     let goal = deal(values, bundles) + 1;
-    let found = walk_from(values, counts, bundles, ceiling, goal, allowance);
+    let found = find(values, bundles, ceiling, goal, allowance);
     let best = found.best;
     best.goal - 1
 }

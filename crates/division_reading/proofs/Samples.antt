@@ -9,7 +9,7 @@ use Rattle.lexing.specs.Lines.{onFirst, lines, beforeRemark}
 use Rattle.lexing.specs.Tokens.{extended, words, lineTokens, tokens}
 use Rattle.lexing.specs.Forms.{follow, inTurn}
 use Rattle.lexing.specs.Numbers.{numberAfter, number, digitsAfter, isNumber}
-use Rattle.reading.specs.Grammar.{endLine}
+use Rattle.sheet_lines.specs.Grammar.{endLine}
 use Rattle.division_reading.specs.Stated.{Stated}
 use Rattle.division_reading.specs.Grammar.{risingItems, bundleAfter, bundleInTurn, amounts, yardLine, head, divisionText, divisionWithin}
 

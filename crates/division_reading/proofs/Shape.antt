@@ -23,8 +23,8 @@ use Rattle.lexing.specs.Forms.{_>>=_, ended, form, follow}
 use Rattle.lexing.specs.Numbers.{isNumber, digitsAfter, numberAfter, followNumber}
 use Rattle.lexing.proofs.readers.InTurn.{Holds, then-holds, read-holds, holds-both, in-turn-length, in-turn-each}
 use Rattle.lexing.proofs.readers.Bounds.{numberAfter-below}
-use Rattle.reading.specs.SheetForms.{beforeItems, beforeTurn, lineEnd}
-use Rattle.reading.specs.Grammar.{endLine}
+use Rattle.sheet_lines.specs.SheetForms.{beforeItems, beforeTurn, lineEnd}
+use Rattle.sheet_lines.specs.Grammar.{endLine}
 use Rattle.division_reading.specs.DivisionForms.{beforeCounts, beforeGrade, beforePile, beforeWorth, beforeShare, beforeCut, beforeCutPile, pileEnd}
 use Rattle.division_reading.specs.Stated.{StatedLine, Stated}
 use Rattle.division_reading.specs.Grammar.{gradeDigits, risingItems, bundleAfter, bundleInTurn, amounts, cutBundles, yardLine, yardLines, head, divisionText}

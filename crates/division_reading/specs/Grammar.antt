@@ -11,8 +11,8 @@ use Rattle.sheet.specs.Limits.{mostAgents, mostItems, countDigits, sumDigits}
 use Rattle.lexing.specs.Tokens.{Token}
 use Rattle.lexing.specs.Forms.{_>>=_, ended, follow, form, inTurn}
 use Rattle.lexing.specs.Numbers.{isNumber, digitsAfter, numberAfter, followNumber}
-use Rattle.reading.specs.SheetForms.{beforeItems, beforeTurn, lineEnd}
-use Rattle.reading.specs.Grammar.{endLine}
+use Rattle.sheet_lines.specs.SheetForms.{beforeItems, beforeTurn, lineEnd}
+use Rattle.sheet_lines.specs.Grammar.{endLine}
 use Rattle.division_reading.specs.DivisionForms.{beforeCounts, beforeGrade, beforePile, beforeWorth, beforeShare, beforeCut, beforeCutPile, pileEnd}
 use Rattle.division_reading.specs.Stated.{StatedLine, Stated}
 

@@ -7,7 +7,7 @@ ghost use Rattle.lexing.specs.Tokens.{tokens};
 ghost use Rattle.lexing.specs.Forms.{ended};
 ghost use Rattle.lexing.specs.Places.{tokensAt};
 ghost use Rattle.lexing.specs.Results.{ReadsNumber};
-ghost use Rattle.reading.specs.Grammar.{endLine};
+ghost use Rattle.sheet_lines.specs.Grammar.{endLine};
 ghost use Rattle.division_reading.specs.Grammar.{risingItems, bundleAfter, bundleInTurn, amounts, cutBundles, yardLine, yardLines, head};
 ghost use Rattle.division_reading.specs.Outcome.{keptLine};
 ghost use Rattle.division_reading.specs.internal.Kept.{isRead, mapRead, keptBundle, keptCut, keptLines};
@@ -31,12 +31,12 @@ use lexing::forms::number_after;
 use lexing::forms::read_number;
 use lexing::tokens::Cursor;
 use lexing::tokens::ended;
-use reading::forms::BEFORE_ITEMS;
-use reading::forms::BEFORE_TURN;
-use reading::forms::LAST_LINE;
-use reading::forms::LINE_END;
 use sheet::Sets;
 use sheet::Sheet;
+use sheet_lines::forms::BEFORE_ITEMS;
+use sheet_lines::forms::BEFORE_TURN;
+use sheet_lines::forms::LAST_LINE;
+use sheet_lines::forms::LINE_END;
 
 // The digits of a grade.
 const GRADE_DIGITS: usize = 1;

@@ -6,7 +6,7 @@ use Rattle.lists.specs.Lists.{range}
 use Rattle.text.specs.Decimal.{decimal}
 use Rattle.lexing.specs.Tokens.{Token}
 use Rattle.lexing.specs.Forms.{form}
-use Rattle.reading.specs.SheetForms.{beforeItems, beforeTurn, lineEnd, lastLine}
+use Rattle.sheet_lines.specs.SheetForms.{beforeItems, beforeTurn, lineEnd, lastLine}
 use Rattle.division_reading.specs.DivisionForms.{beforeCounts, beforeGrade, beforePile, beforeWorth, beforeShare, beforeCut, beforeCutPile, pileEnd}
 
 -- a form and a number behind it

@@ -12,7 +12,7 @@ use Rattle.lexing.specs.Forms.{form}
 use Rattle.lexing.proofs.texts.Parts.{begunAfter, noRemark, Lexes, lexed-tokens, _then_, nothing-lexed, space-lexed, bracketed-lexed}
 use Rattle.lexing.proofs.texts.Numbers.{number-lexed, numbers-lexed, bracket-number-lexed, parts-lexed}
 use Rattle.writing.specs.Fields.{field, group}
-use Rattle.reading.specs.SheetForms.{beforeItems, beforeTurn, lineEnd}
+use Rattle.sheet_lines.specs.SheetForms.{beforeItems, beforeTurn, lineEnd}
 use Rattle.strict_text.proofs.SheetLexed.{line-end-lexed, last-line-lexed}
 use Rattle.sheet.specs.Valuations.{value}
 use Rattle.sheet.specs.Tables.{valuation}

@@ -20,8 +20,8 @@ use Rattle.lexing.specs.Forms.{ended, follow, form}
 use Rattle.lexing.specs.Numbers.{isNumber}
 use Rattle.lexing.proofs.readers.Decimal.{decimal-value, decimal-isNumber}
 use Rattle.lexing.proofs.readers.Written.{follow-append, numberAfter-decimal, followNumber-decimal, inTurn-range}
-use Rattle.reading.specs.SheetForms.{beforeItems, beforeTurn, lineEnd, lastLine}
-use Rattle.reading.specs.Grammar.{endLine}
+use Rattle.sheet_lines.specs.SheetForms.{beforeItems, beforeTurn, lineEnd, lastLine}
+use Rattle.sheet_lines.specs.Grammar.{endLine}
 use Rattle.division_reading.specs.DivisionForms.{beforeCounts, beforeGrade, beforePile, beforeWorth, beforeShare, beforeCut, beforeCutPile, pileEnd}
 use Rattle.division_reading.specs.Stated.{StatedLine}
 use Rattle.division_reading.specs.Grammar.{gradeDigits, risingItems, bundleAfter, bundleInTurn, amounts, cutBundles, yardLine, head, divisionText}

@@ -12,8 +12,8 @@ use Rattle.sheet.specs.Limits.{MarkLimits, markLimits, longestText, mostAgents,
 use Rattle.sheet.specs.Answers.{Answer, refused, accepted, require, requireSome}
 use Rattle.lexing.specs.Tokens.{Token, tokens}
 use Rattle.lexing.specs.Forms.{_>>=_, ended, form, follow}
-use Rattle.reading.specs.SheetForms.{lastLine}
-use Rattle.reading.specs.Grammar.{head, yardLines, anything, endLine}
+use Rattle.sheet_lines.specs.SheetForms.{lastLine}
+use Rattle.sheet_lines.specs.Grammar.{head, body, anything, endLine}
 use Rattle.reading.specs.Reading.{Contents, sheetAtFront, sheetOf, reading, readingFront}
 use Rattle.reading.proofs.Accepted.{AcceptedText, accepted-passes, passes-accepted, accepted-text, passes-sheet}
 
@@ -64,7 +64,7 @@ alone-or-alike limits text =
     (requireSome-alike 3 (head (tokens text)) _ _ (λ (agents, items, ts₁).
     require-alike 4 (within mostAgents agents) _ _
     (require-alike 5 (within mostItems items) _ _
-    (requireSome-alike 6 (yardLines (limits .digits) agents items ts₁) _ _ (λ (rows, ts₂).
+    (requireSome-alike 6 (body (limits .digits) agents items ts₁) _ _ (λ (lines, ts₂).
     endLine-alike ts₂ _))))))
 
 pub refused-alike : (text : List ℕ) → (reading text ≡ refused 7) ⊎ (reading text ≡ sheetOf (readingFront text))

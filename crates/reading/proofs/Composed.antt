@@ -1,7 +1,8 @@
 -- What the outcome of reading says of an answer that follows reading. Assumes nothing.
-use mathlib.Core.Path.{_≡_, sym, ap, _∙_}
+use mathlib.Core.Path.{_≡_, refl, sym, ap, _∙_, subst}
 use mathlib.Core.List.{List}
 use Prim.Native.Nat.{ℕ}
+use native.Mathlib.Omega.{arith}
 use Rattle.sheet.specs.Answers.{Answer, refused, accepted, andThen}
 use Rattle.sheet.specs.declared.Sheet.{Sheet}
 use Rattle.reading.specs.Reading.{Contents, reading}
@@ -10,29 +11,41 @@ use Rattle.reading.specs.declared.Answer.the-variants.{Refused, Accepted
 use Rattle.reading.specs.declared.Outcome.{Outcome}
 use Rattle.reading.proofs.OutcomeTable.{tableIn-accepted}
 
--- counts and a table
-abbrev contents : Sheet → List (List ℕ) → Contents
-contents counts table = record { agents = counts .agents; items = counts .items; table = table }
-
 module _ {B : Type 0} (next : Contents → Answer B) where
   refused-outcome : (r : Answer Contents) (number : ℕ) → outcome r .answer ≡ Refused number → andThen r next ≡ refused number
   refused-outcome (refused n) number e = cc
   refused-outcome (accepted sheet) number e = cc
 
-  accepted-outcome : (r : Answer Contents) (counts : Sheet) → outcome r .answer ≡ Accepted counts → next (contents counts (tableIn (outcome r .rows))) ≡ andThen r next
-  accepted-outcome (refused n) counts e = cc
-  accepted-outcome (accepted sheet) counts e =
-      let same : counts ≡ record { agents = sheet .agents; items = sheet .items } = cc in
-      ap (λ table. next (contents counts table)) (tableIn-accepted sheet) ∙ ap (λ c. next (contents c (sheet .table))) same
+  -- a refusal of reading is the answer
+  pub refused-read : (text : List ℕ) {found : Outcome} → found ≡ outcome (reading text) → {number : ℕ} → found .answer ≡ Refused number → andThen (reading text) next ≡ refused number
+  refused-read text read {number} e = refused-outcome (reading text) number (sym (ap (λ o. o .answer) read) ∙ e)
 
-  module _ (text : List ℕ) {found : Outcome} (read : found ≡ outcome (reading text)) where
-    -- a refusal of reading is the answer
-    pub refused-read : {number : ℕ} → found .answer ≡ Refused number → andThen (reading text) next ≡ refused number
-    refused-read {number} e = refused-outcome (reading text) number (sym (ap (λ o. o .answer) read) ∙ e)
+-- a sheet with these counts and this table, whatever else it carries
+pub record HasTable (counts : Sheet) (table : List (List ℕ)) (sheet : Contents) : Type 0 where
+  pub agents-are : sheet .agents ≡ counts .agents
+  pub items-are : sheet .items ≡ counts .items
+  pub table-is : sheet .table ≡ table
 
-    -- the answer to an accepted text is that to the counts and the table that were read
-    pub accepted-read : {counts : Sheet} {table : List (List ℕ)} → found .answer ≡ Accepted counts → table ≡ tableIn (found .rows)
-        → next (record { agents = counts .agents; items = counts .items; table = table }) ≡ andThen (reading text) next
-    accepted-read {counts} e rows =
-        ap (λ t. next (contents counts t)) (rows ∙ ap (λ o. tableIn (o .rows)) read)
-        ∙ accepted-outcome (reading text) counts (sym (ap (λ o. o .answer) read) ∙ e)
+pub accepted-has-table : (sheet : Contents) {counts : Sheet} → outcome (accepted sheet) .answer ≡ Accepted counts → HasTable counts (tableIn (outcome (accepted sheet) .rows)) sheet
+accepted-has-table sheet {counts} e =
+    let same : record { agents = sheet .agents; items = sheet .items } ≡ counts = cc in
+    record { agents-are = ap (λ c. c .agents) same; items-are = ap (λ c. c .items) same; table-is = sym (tableIn-accepted sheet) }
+
+-- an accepted text carries a sheet with the counts and the table that were read
+module _ (text : List ℕ) {found : Outcome} (read : found ≡ outcome (reading text)) where
+  sheet-outcome : (r : Answer Contents) {counts : Sheet} → outcome r .answer ≡ Accepted counts → (sheet : Contents) × (r ≡ accepted sheet) × HasTable counts (tableIn (outcome r .rows)) sheet
+  sheet-outcome (refused n) e = let z : _≡_ {A = ℕ} 0 1 = cc in absurd (omega arith)
+  sheet-outcome (accepted sheet) e = (sheet, refl, accepted-has-table sheet e)
+
+  pub sheet-read : {counts : Sheet} {table : List (List ℕ)} → found .answer ≡ Accepted counts → table ≡ tableIn (found .rows)
+      → (sheet : Contents) × (reading text ≡ accepted sheet) × HasTable counts table sheet
+  sheet-read {counts} e rows =
+      let told = sheet-outcome (reading text) (sym (ap (λ o. o .answer) read) ∙ e) in
+      (told .0, told .1, subst (λ t. HasTable counts t (told .0)) (sym (rows ∙ ap (λ o. tableIn (o .rows)) read)) (told .2))
+
+  -- an answer that follows from the counts and the table alone
+  pub accepted-read : {B : Type 0} (next : ℕ → ℕ → List (List ℕ) → Answer B) {counts : Sheet} {table : List (List ℕ)} → found .answer ≡ Accepted counts
+      → table ≡ tableIn (found .rows) → next (counts .agents) (counts .items) table ≡ andThen (reading text) (λ sheet. next (sheet .agents) (sheet .items) (sheet .table))
+  accepted-read next {counts} {table} e rows =
+      let told = sheet-read e rows in
+      rw (told .1, told .2 .agents-are, told .2 .items-are, told .2 .table-is)

@@ -1,9 +1,6 @@
--- Laws of the definitions: what is kept of marks and lines while they are read, how many are read, the table of an outcome, what
--- follows reading, what an accepted text has and how great its marks are, which numbers refuse a text, a sheet alone and before another
+-- Laws of the definitions: the table of an outcome, what follows reading, what an accepted text has and how great its marks are, which numbers refuse a text, a sheet alone and before another
 -- text, the samples by computation, that spaces, remarks and blank lines count for nothing, and that wider limits of a mark refuse no
 -- text accepted before; and the sheet of the three players of document 000.
-pub mod kept
-pub mod Shape
 pub mod OutcomeTable
 pub mod Composed
 pub mod Samples

@@ -12,8 +12,9 @@ use Rattle.lexing.specs.Lines.{space, onFirst, lines, beforeRemark}
 use Rattle.lexing.specs.Tokens.{Token, extended, words, lineTokens, tokens}
 use Rattle.lexing.specs.Forms.{form, follow, inTurn}
 use Rattle.lexing.specs.Numbers.{numberAfter, number, digitsAfter, isNumber}
-use Rattle.reading.specs.Grammar.{endLine, yardLine, yardTurn, head}
-use Rattle.reading.specs.Reading.{Contents, readingWithin, reading, readingFront, tableOf}
+use Rattle.sheet_lines.specs.Grammar.{endLine, body, yardLine, yardTurn, head}
+use Rattle.sheet_lines.specs.Kept.{tableOf}
+use Rattle.reading.specs.Reading.{Contents, contentsOf, readingWithin, reading, readingFront}
 
 -- the contents of a text with these counts and these rows of marks
 abbrev contents : ℕ → ℕ → List (List ℕ) → Answer Contents
@@ -62,15 +63,15 @@ typed =
     ∷ []
 
 pub samples-read : map (λ p. reading (bytes (p .0))) samples ≡ map (λ p. p .1) samples
-unfolding reading endLine yardLine yardTurn head numberAfter number digitsAfter isNumber follow inTurn onFirst lines beforeRemark extended words lineTokens tokens flatMap
+unfolding reading contentsOf endLine body yardLine yardTurn head numberAfter number digitsAfter isNumber follow inTurn onFirst lines beforeRemark extended words lineTokens tokens flatMap
 samples-read = refl
 
 pub samples-read-before : map (λ p. readingWithin earlierMarkLimits (bytes (p .0))) samples-before ≡ map (λ p. p .1) samples-before
-unfolding endLine yardLine yardTurn head numberAfter number digitsAfter isNumber follow inTurn onFirst lines beforeRemark extended words lineTokens tokens flatMap
+unfolding contentsOf endLine body yardLine yardTurn head numberAfter number digitsAfter isNumber follow inTurn onFirst lines beforeRemark extended words lineTokens tokens flatMap
 samples-read-before = refl
 
 pub typed-read : map (λ p. reading (bytes (p .0))) typed ≡ map (λ p. p .1) typed
-unfolding reading endLine yardLine yardTurn head numberAfter number digitsAfter isNumber follow inTurn onFirst lines beforeRemark extended words lineTokens tokens flatMap
+unfolding reading contentsOf endLine body yardLine yardTurn head numberAfter number digitsAfter isNumber follow inTurn onFirst lines beforeRemark extended words lineTokens tokens flatMap
 typed-read = refl
 
 -- refusal 1 counts the bytes as typed: sheet a with so many spaces behind it that the text has 4,096 bytes, and 4,097
@@ -78,7 +79,7 @@ abbrev spaced : ℕ → List ℕ
 spaced n = bytes "(sheet (yards 2) (pieces 3))\n(yard 1 (marks 5 3 4))\n(yard 2 (marks 6 2 2))\n(end)\n" ++ replicate n space
 
 pub bytes-counted-as-typed : map reading (spaced 4015 ∷ spaced 4016 ∷ []) ≡ contents 2 3 ((5 ∷ 3 ∷ 4 ∷ []) ∷ (6 ∷ 2 ∷ 2 ∷ []) ∷ []) ∷ refused 1 ∷ []
-unfolding reading endLine yardLine yardTurn head numberAfter number digitsAfter isNumber follow inTurn onFirst lines beforeRemark extended words lineTokens tokens flatMap
+unfolding reading contentsOf endLine body yardLine yardTurn head numberAfter number digitsAfter isNumber follow inTurn onFirst lines beforeRemark extended words lineTokens tokens flatMap
 bytes-counted-as-typed = refl
 
 -- sheets with another text behind them, each with what reading answers as a sheet, and as a sheet before another text
@@ -92,5 +93,5 @@ followed =
     ∷ []
 
 pub followed-read : map (λ p. (p .0, reading (bytes (p .0)), readingFront (bytes (p .0)))) followed ≡ followed
-unfolding reading readingFront endLine yardLine yardTurn head numberAfter number digitsAfter isNumber follow inTurn onFirst lines beforeRemark extended words lineTokens tokens flatMap
+unfolding reading readingFront contentsOf endLine body yardLine yardTurn head numberAfter number digitsAfter isNumber follow inTurn onFirst lines beforeRemark extended words lineTokens tokens flatMap
 followed-read = refl

@@ -11,7 +11,8 @@ use Rattle.lists.proofs.places.Zeros.{getD-zeros}
 use Rattle.sheet.specs.Limits.{mostAgents, mostItems, greatestMark, blankRow}
 use Rattle.sheet.specs.Valuations.{itemValue}
 use Rattle.sheet.specs.Tables.{valuation}
-use Rattle.reading.specs.Reading.{allowed, allowedRow, tableOf}
+use Rattle.sheet_lines.specs.Marks.{allowed, allowedRow}
+use Rattle.sheet_lines.specs.Kept.{tableOf}
 
 -- no mark of a row is above the greatest
 Small : List ℕ → Type 0

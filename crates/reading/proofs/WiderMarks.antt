@@ -14,10 +14,11 @@ use Rattle.lexing.specs.Tokens.{Token}
 use Rattle.lexing.specs.Forms.{_>>=_, form, follow}
 use Rattle.lexing.specs.Numbers.{number}
 use Rattle.lexing.proofs.readers.AlsoReads.{AlsoReads, also-itself, then-also, in-turn-also, number-also}
-use Rattle.reading.specs.SheetForms.{lineEnd}
-use Rattle.reading.specs.Grammar.{marks, yardTurn, yardLine, yardLines}
-use Rattle.reading.specs.Reading.{Contents, allowed, allowedRow, readingWithin, reading}
-use Rattle.reading.proofs.Accepted.{sheet-passes, passes-sheet}
+use Rattle.sheet_lines.specs.SheetForms.{lineEnd}
+use Rattle.sheet_lines.specs.Grammar.{marks, yardTurn, yardLine, yardLines, Body, body}
+use Rattle.sheet_lines.specs.Marks.{allowed, allowedRow}
+use Rattle.reading.specs.Reading.{Contents, contentsOf, readingWithin, reading}
+use Rattle.reading.proofs.Accepted.{sheet-passes, passes-sheet, contentsOf-carried, carried-contentsOf}
 
 -- what is read with fewer digits to a mark is read with more
 module _ (digits digits′ : ℕ) (more : digits ≤ digits′) where
@@ -34,10 +35,24 @@ module _ (digits digits′ : ℕ) (more : digits ≤ digits′) where
   yardLines-also : (agents items : ℕ) (ts : List Token) → AlsoReads (yardLines digits′ agents items ts) (yardLines digits agents items ts)
   yardLines-also agents items = in-turn-also (yardLine digits′ items) (yardLine digits items) (yardLine-also items) 1 agents
 
+  body-also : (agents items : ℕ) (ts : List Token) → AlsoReads (body digits′ agents items ts) (body digits agents items ts)
+  unfolding body
+  body-also agents items ts =
+      then-also (yardLines digits′ agents items ts) (yardLines digits agents items ts) _ _ (yardLines-also agents items ts) (λ r. also-itself (some (record { rows = r .0 }, r .1)))
+
 -- a row allowed by one greatest mark is allowed by a greater one
 row-allowed-also : (greatest greatest′ : ℕ) → greatest ≤ greatest′ → (row : List ℕ) → allowedRow greatest row ≡ true → allowedRow greatest′ row ≡ true
 row-allowed-also greatest greatest′ greater =
     all-weaker (allowed greatest) (allowed greatest′) (λ mark e. let small = leb-true mark greatest e in le-leb mark greatest′ (omega arith))
+
+-- what lines carry by one greatest mark they carry by a greater one
+contentsOf-wider : (limits wider : MarkLimits) → limits .greatest ≤ wider .greatest → (lines : Body) (c : Contents) → contentsOf limits (c .agents) (c .items) lines ≡ accepted c
+    → contentsOf wider (c .agents) (c .items) lines ≡ accepted c
+contentsOf-wider limits wider greater lines c e =
+    let told = contentsOf-carried limits (c .agents) (c .items) lines c e in
+    carried-contentsOf wider lines c
+    (all-weaker (allowedRow (limits .greatest)) (allowedRow (wider .greatest)) (row-allowed-also (limits .greatest) (wider .greatest) greater) (lines .rows) (told .marks-allowed))
+    (told .table-is)
 
 pub accepted-within-wider : (limits wider : MarkLimits) → limits .greatest ≤ wider .greatest → limits .digits ≤ wider .digits
     → (text : List ℕ) (c : Contents) → readingWithin limits text ≡ accepted c → readingWithin wider text ≡ accepted c
@@ -51,13 +66,11 @@ accepted-within-wider limits wider greater more text c e =
       head-is = a .head-is;
       agents-within = a .agents-within;
       items-within = a .items-within;
-      rows = a .rows;
+      lines = a .lines;
       last = a .last;
-      lines-are = rw (a .lines-are) at (yardLines-also (limits .digits) (wider .digits) more (c .agents) (c .items) (a .after-head));
+      lines-are = rw (a .lines-are) at (body-also (limits .digits) (wider .digits) more (c .agents) (c .items) (a .after-head));
       ends = a .ends;
-      marks-allowed =
-          all-weaker (allowedRow (limits .greatest)) (allowedRow (wider .greatest)) (row-allowed-also (limits .greatest) (wider .greatest) greater) (a .rows) (a .marks-allowed);
-      table-is = a .table-is;
+      carries = contentsOf-wider limits wider greater (a .lines) c (a .carries);
     })
 
 -- a text accepted when a mark went to 65,535 in five digits is accepted now, with the same counts and table

@@ -1,7 +1,3 @@
--- What reading a sheet of marks from bytes answers (document 01, "The sheet" and refusals 1 to 8). `internal` has what the contracts of
--- private functions cite; no public contract does.
-pub mod SheetForms
-pub mod Grammar
+-- What reading a sheet of marks from bytes answers (document 01, "Reasons to turn a sheet down, in checking order", 1 to 8).
 pub mod Reading
 pub mod Outcome
-pub mod internal

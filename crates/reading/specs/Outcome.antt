@@ -8,23 +8,20 @@ use Rattle.sheet.specs.Answers.{Answer, refused, accepted}
 use Rattle.lexing.specs.Tokens.{Token}
 use Rattle.lexing.specs.Places.{tokensAt, start}
 use Rattle.lexing.specs.declared.tokens.Cursor.{Cursor}
+use Rattle.sheet_lines.specs.Kept.{yard}
+use Rattle.sheet_lines.specs.declared.yards.Yard.{Yard}
 use Rattle.reading.specs.Reading.{Contents, sheetOf}
 use Rattle.reading.specs.declared.Answer.the-variants.{Refused, Accepted}
-use Rattle.reading.specs.declared.Valuation.{Valuation}
 use Rattle.reading.specs.declared.Outcome.{Outcome}
 use Rattle.reading.specs.declared.Front.{Front}
 
--- a row of marks as one agent's valuation
-abbrev pub valuation : List ℕ → Valuation
-valuation row = record { marks = row }
-
 -- the number of the refusal and the blank table, or the counts and the table of marks
 abbrev pub outcome : Answer Contents → Outcome
-outcome (refused number) = record { answer = Refused number; rows = map valuation blankTable }
-outcome (accepted c) = record { answer = Accepted (record { agents = c .agents; items = c .items }); rows = map valuation (c .table) }
+outcome (refused number) = record { answer = Refused number; rows = map yard blankTable }
+outcome (accepted c) = record { answer = Accepted (record { agents = c .agents; items = c .items }); rows = map yard (c .table) }
 
 -- the table that rows make
-abbrev pub tableIn : List Valuation → List (List ℕ)
+abbrev pub tableIn : List Yard → List (List ℕ)
 tableIn rows = map (λ v. v .marks) rows
 
 -- the place where another text begins: before the tokens behind the sheet, inside the text; its start, where it is refused

@@ -1,16 +1,18 @@
 -- What reading a text answers: the number of a refusal, or the counts and the table of marks (document 01, "Reasons to turn a sheet
 -- down", 1 to 8), of a sheet alone and of a sheet with another text behind it. Assumes nothing: these are definitions.
-use mathlib.Core.List.{List, map}
+use mathlib.Core.List.{List}
 use mathlib.Core.Bool.{Bool}
 use Prim.Native.Nat.{ℕ}
 use lib.ListN.{length}
 use lib.Dec.{leb, ltb}
-use Rattle.lists.specs.Lists.{padded, all}
-use Rattle.sheet.specs.Limits.{MarkLimits, mostAgents, mostItems, markLimits, longestText, within, blankRow}
+use Rattle.lists.specs.Lists.{all}
+use Rattle.sheet.specs.Limits.{MarkLimits, mostAgents, mostItems, markLimits, longestText, within}
 use Rattle.sheet.specs.Answers.{Answer, accepted, require, andThen, requireSome}
 use Rattle.lexing.specs.Tokens.{Token, tokens}
 use Rattle.lexing.specs.Forms.{ended}
-use Rattle.reading.specs.Grammar.{head, yardLines, anything, endLine}
+use Rattle.sheet_lines.specs.Grammar.{head, Body, body, anything, endLine}
+use Rattle.sheet_lines.specs.Marks.{allowedRow}
+use Rattle.sheet_lines.specs.Kept.{tableOf}
 
 -- what an accepted text carries: the counts and the table of marks
 pub record Contents : Type 0 where
@@ -18,16 +20,12 @@ pub record Contents : Type 0 where
   pub items : ℕ
   pub table : List (List ℕ)
 
--- "A mark is a whole number from 0 to" the greatest: whether a mark is allowed, and whether all marks of a row are
-abbrev pub allowed : ℕ → ℕ → Bool
-allowed greatest mark = leb mark greatest
-
-abbrev pub allowedRow : ℕ → List ℕ → Bool
-allowedRow greatest row = all (allowed greatest) row
-
--- "six rows of twelve places": places beyond those in use are 0
-abbrev pub tableOf : List (List ℕ) → List (List ℕ)
-tableOf rows = padded mostAgents blankRow (map (padded mostItems 0) rows)
+-- what the lines between the first line and the line `(end)` of a sheet with these counts carry, where none of these reasons is found:
+-- 8: "A mark is above" the greatest
+unfoldable pub contentsOf : MarkLimits → ℕ → ℕ → Body → Answer Contents
+contentsOf limits agents items lines =
+    require 8 (all (allowedRow (limits .greatest)) (lines .rows))
+    (accepted (record { agents = agents; items = items; table = tableOf (lines .rows) }))
 
 -- "Each is looked for over the whole input before the following one":
 -- 1: "The text is longer than 4,096 bytes"
@@ -37,7 +35,7 @@ tableOf rows = padded mostAgents blankRow (map (padded mostItems 0) rows)
 -- 5: "The number of pieces lies outside 1 to 12"
 -- 6: "One of the lines due for the yards is missing, malformed, out of turn, or has another count of marks than the pieces"
 -- 7: "After the yard lines stands anything but the line `(end)` and the end of the text", or what else may stand behind that line
--- 8: "A mark is above" the greatest
+-- then those of `contentsOf`
 -- A text that is accepted carries, besides its sheet, the tokens behind the line `(end)`.
 abbrev pub sheetAtFront : MarkLimits → (List Token → Bool) → List ℕ → Answer (Contents × List Token)
 sheetAtFront limits mayFollow text =
@@ -46,10 +44,10 @@ sheetAtFront limits mayFollow text =
     (requireSome 3 (head (tokens text)) (λ (agents, items, ts₁).
     require 4 (within mostAgents agents)
     (require 5 (within mostItems items)
-    (requireSome 6 (yardLines (limits .digits) agents items ts₁) (λ (rows, ts₂).
+    (requireSome 6 (body (limits .digits) agents items ts₁) (λ (lines, ts₂).
     requireSome 7 (endLine mayFollow ts₂) (λ ts₃.
-    require 8 (all (allowedRow (limits .greatest)) rows)
-    (accepted (record { agents = agents; items = items; table = tableOf rows }, ts₃)))))))))
+    andThen (contentsOf limits agents items lines) (λ sheet.
+    accepted (sheet, ts₃)))))))))
 
 -- the sheet alone of what is read
 abbrev pub sheetOf : Answer (Contents × List Token) → Answer Contents

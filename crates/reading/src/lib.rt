@@ -3,24 +3,20 @@ ghost use mathlib.Core.Path.{_≡_};
 ghost use Rattle.sheet.specs.Answers;
 ghost use Rattle.sheet.specs.Limits.{markLimits};
 ghost use Rattle.lexing.specs.Places.{start};
+ghost use Rattle.sheet_lines.specs.Alone.{mayFollow};
 ghost use Rattle.reading.specs.Reading.{sheetAtFront, reading, readingFront};
 ghost use Rattle.reading.specs.Outcome.{outcome, tableIn, ReadsFront};
-ghost use Rattle.reading.specs.internal.Alone.{mayFollow};
-ghost use Rattle.reading.specs.internal.Kept.{blankRows};
+use lexing::forms::Followed;
 use lexing::tokens::Cursor;
-use lines::Head;
-use sheet::Row;
 use sheet::Sheet;
 use sheet::Table;
 use sheet::is_within;
-
-pub mod forms;
-mod lines;
-
-// One agent's valuation (row of marks).
-pub struct Valuation {
-    pub marks: Row,
-}
+use sheet_lines::body::blank_yards;
+use sheet_lines::body::read_body;
+use sheet_lines::end::end_line;
+use sheet_lines::head::Head;
+use sheet_lines::head::read_head;
+use sheet_lines::yards::Yard;
 
 // What reading answers: the number of the reason to refuse the text, or the counts.
 pub enum Answer {
@@ -28,10 +24,10 @@ pub enum Answer {
     Accepted(Sheet),
 }
 
-// The answer, and the rows of the table of marks, which are blank where the text is refused.
+// The answer, and what the lines of the yards give, which is blank where the text is refused.
 pub struct Outcome {
     pub answer: Answer,
-    pub rows: [Valuation; Sheet::AGENTS],
+    pub rows: [Yard; Sheet::AGENTS],
 }
 
 // The outcome of the sheet at the front of a text, and the place behind its last line, or the start of a text that is refused.
@@ -40,8 +36,8 @@ pub struct Front {
     pub next: Cursor,
 }
 
-// The table of these rows: a struct cannot hold it as an array of arrays.
-pub fn table(rows: [Valuation; Sheet::AGENTS]) -> Table
+// The table of the marks in these rows: a struct cannot hold it as an array of arrays.
+pub fn table(rows: [Yard; Sheet::AGENTS]) -> Table
     ensures { λ r. ⌜ r ≡ tableIn rows ⌝ }
 {
     let mut table = Sheet::blank();
@@ -55,23 +51,13 @@ pub fn table(rows: [Valuation; Sheet::AGENTS]) -> Table
     table
 }
 
-// The rows of the blank table.
-pub(crate) fn blank_rows() -> [Valuation; Sheet::AGENTS]
-    ensures { λ r. ⌜ r ≡ blankRows ⌝ }
-{
-    let blank = Valuation {
-        marks: [0; Sheet::ITEMS],
-    };
-    [blank; Sheet::AGENTS]
-}
-
 // What a refusal gives.
 fn refused(number: u8) -> Front
     ensures { λ r. ⌜ (r .outcome ≡ outcome (Answers.refused number)) × (r .next ≡ start) ⌝ }
 {
     let outcome = Outcome {
         answer: Answer::Refused(number),
-        rows: blank_rows(),
+        rows: blank_yards(),
     };
     Front {
         outcome,
@@ -89,7 +75,7 @@ fn sheet_at_front(text: &[u8], alone: bool) -> Front
     if text.len() == 0 {
         return refused(2);
     }
-    let Head::Counts(agents, items, first) = lines::read_head(text, Cursor::start()) else {
+    let Head::Counts(agents, items, first) = read_head(text, Cursor::start()) else {
         return refused(3);
     };
     if !is_within(agents, Sheet::AGENTS) {
@@ -98,22 +84,18 @@ fn sheet_at_front(text: &[u8], alone: bool) -> Front
     if !is_within(items, Sheet::ITEMS) {
         return refused(5);
     }
-    let lines = lines::yard_lines(text, first, agents, items);
+    let lines = read_body(text, first, agents, items);
     if !lines.read {
         return refused(6);
     }
     let last = lines.next;
-    let end = lines::end_line(text, last, alone);
-    let ended = end.read;
-    let allowed = lines.allowed;
-    if !ended {
+    let Followed::At(next) = end_line(text, last, alone) else {
         return refused(7);
-    }
-    if !allowed {
+    };
+    if !lines.allowed {
         return refused(8);
     }
-    let rows = lines.rows;
-    let next = end.next;
+    let rows = lines.yards;
     let outcome = Outcome {
         answer: Answer::Accepted(Sheet { agents, items }),
         rows,

@@ -5,7 +5,7 @@ use Prim.Native.Nat.{ℕ, _≤_}
 use native.Mathlib.Omega.{arith}
 use Rattle.sheet.specs.Answers.{accepted, andThen}
 use Rattle.reading.specs.Reading.{Contents, reading}
-use Rattle.reading.proofs.Accepted.{accepted-text, accepted-counts}
+use Rattle.reading.proofs.Accepted.{accepted-text, accepted-carried, accepted-counts}
 use Rattle.reading.proofs.SmallMarks.{table-small}
 use Rattle.growth.specs.Growth.{growths}
 use Rattle.growth.proofs.Growths.{mostGrowths, growths-le-most}
@@ -24,11 +24,11 @@ pub accepted-printed : (s : List ℕ) (allowance room : ℕ) (sheet : Contents) 
     → longestPrinted ≤ room → shareOut s allowance room ≡ accepted (printedDivision sheet)
 unfolding shareOut
 accepted-printed s allowance room sheet read allowed enough =
-    let told = accepted-text s sheet read in
+    let told = accepted-carried s sheet read in
     ap (λ a. andThen a (λ c. printing (c .agents) (c .items) (c .table) allowance room)) read
     ∙ printing-within-limits (sheet .agents) (sheet .items) (sheet .table) allowance room
     (accepted-counts s sheet read)
-    (table-small (told .rows) (sheet .table) (told .table-is) (told .marks-allowed)) allowed enough
+    (table-small (accepted-text s sheet read .lines .rows) (sheet .table) (told .table-is) (told .marks-allowed)) allowed enough
 
 -- "The dividing program allows 4,000,000, so no sheet is lost" (document 02, order 7): every accepted text gets its division
 pub no-sheet-lost : (s : List ℕ) (room : ℕ) (sheet : Contents) → reading s ≡ accepted sheet → longestPrinted ≤ room

@@ -9,8 +9,8 @@ use Rattle.lexing.specs.Lines.{onFirst, lines, beforeRemark}
 use Rattle.lexing.specs.Tokens.{extended, words, lineTokens, tokens}
 use Rattle.lexing.specs.Forms as forms
 use Rattle.lexing.specs.Numbers as numbers
-use Rattle.reading.specs.Grammar as grammar
-use Rattle.reading.specs.Reading.{reading}
+use Rattle.sheet_lines.specs.Grammar as grammar
+use Rattle.reading.specs.Reading.{contentsOf, reading}
 use Rattle.cut.specs.Share.{maximinShare, maximinPartition}
 use Rattle.matching.specs.Matching.{waitingSet, matching}
 use Rattle.margins.specs.Terms.{largestOdd, termsFor}
@@ -25,5 +25,5 @@ use Rattle.sheet_to_division.specs.ShareOut.{shareOut, standardAllowance
 
 pub sheet-a : shareOut (bytes "(sheet (yards 2) (pieces 3))\n(yard 1 (marks 5 3 4))\n(yard 2 (marks 6 2 2))\n(end)\n") standardAllowance longestPrinted
     ≡ accepted (bytes "(division (yards 2) (pieces 3) (grade 3))\n(yard 1 (pile 1) (worth 5) (share 5) (cut (1) (2 3)))\n(yard 2 (pile 2 3) (worth 4) (share 4) (cut (1) (2 3)))\n(cutters 1)\n(end)\n")
-unfolding shareOut reading grammar.endLine grammar.yardLine grammar.yardTurn grammar.head numbers.numberAfter numbers.number numbers.digitsAfter numbers.isNumber forms.inTurn forms.follow onFirst lines beforeRemark extended words lineTokens tokens answer divisionOf sharingWithin growths sharing sharesCovered profile termsFor largestOdd round rounds held waitingSet matching maximinShare maximinPartition grade envyFree proportional maximinFair printing printed allLines headLine pileGroup amounts cutGroup yardLine cuttersLine digitsIn decimal spacedNumbers flatMap
+unfolding shareOut reading contentsOf grammar.endLine grammar.body grammar.yardLine grammar.yardTurn grammar.head numbers.numberAfter numbers.number numbers.digitsAfter numbers.isNumber forms.inTurn forms.follow onFirst lines beforeRemark extended words lineTokens tokens answer divisionOf sharingWithin growths sharing sharesCovered profile termsFor largestOdd round rounds held waitingSet matching maximinShare maximinPartition grade envyFree proportional maximinFair printing printed allLines headLine pileGroup amounts cutGroup yardLine cuttersLine digitsIn decimal spacedNumbers flatMap
 sheet-a = refl

@@ -9,8 +9,8 @@ use Rattle.lexing.specs.Lines.{onFirst, lines, beforeRemark}
 use Rattle.lexing.specs.Tokens.{extended, words, lineTokens, tokens}
 use Rattle.lexing.specs.Forms as forms
 use Rattle.lexing.specs.Numbers as numbers
-use Rattle.reading.specs.Grammar as grammar
-use Rattle.reading.specs.Reading.{reading}
+use Rattle.sheet_lines.specs.Grammar as grammar
+use Rattle.reading.specs.Reading.{contentsOf, reading}
 use Rattle.cut.specs.Share.{maximinShare}
 use Rattle.shares.specs.Shares.{sharesCovered, sharing}
 use Rattle.exact_division.specs.Exact.{isExact, exactExists}
@@ -21,5 +21,5 @@ use Rattle.sheet_to_exact.specs.Showing.{exactFrom}
 
 pub sheet-a : exactFrom (bytes "(sheet (yards 2) (pieces 3))\n(yard 1 (marks 5 3 4))\n(yard 2 (marks 6 2 2))\n(end)\n") ((1 ∷ []) ∷ (2 ∷ 3 ∷ []) ∷ []) longestExact
     ≡ accepted (bytes "(exact (1) (2 3))\n")
-unfolding exactFrom reading grammar.endLine grammar.yardLine grammar.yardTurn grammar.head numbers.numberAfter numbers.number numbers.digitsAfter numbers.isNumber forms.inTurn forms.follow onFirst lines beforeRemark extended words lineTokens tokens searching exactExists isExact sharing sharesCovered profile maximinShare printingExact exactText digitsIn decimal spacedNumbers flatMap
+unfolding exactFrom reading contentsOf grammar.endLine grammar.body grammar.yardLine grammar.yardTurn grammar.head numbers.numberAfter numbers.number numbers.digitsAfter numbers.isNumber forms.inTurn forms.follow onFirst lines beforeRemark extended words lineTokens tokens searching exactExists isExact sharing sharesCovered profile maximinShare printingExact exactText digitsIn decimal spacedNumbers flatMap
 sheet-a = refl

@@ -12,7 +12,7 @@ use Rattle.sheet.specs.Answers.{accepted, andThen}
 use Rattle.sheet.specs.Valuations.{itemValue}
 use Rattle.sheet.specs.Tables.{AgreeInUse}
 use Rattle.sheet.proofs.ThreePlayers.{players}
-use Rattle.reading.specs.Reading.{tableOf}
+use Rattle.sheet_lines.specs.Kept.{tableOf}
 use Rattle.reading.proofs.ThreePlayers.{threePlayersSheet, three-players-read}
 use Rattle.writing.specs.Filled.{filling}
 use Rattle.exact_division.specs.Search.{searching}

@@ -1,7 +1,8 @@
 -- What the outcome of a sheet at the front of a text says of the answer that follows it. Assumes nothing.
-use mathlib.Core.Path.{_≡_, sym, ap, ap₂, _∙_}
+use mathlib.Core.Path.{_≡_, sym, ap, _∙_, subst}
 use mathlib.Core.List.{List}
 use Prim.Native.Nat.{ℕ}
+use native.Mathlib.Omega.{arith}
 use Rattle.sheet.specs.Limits.{mostAgents, mostItems, CountsWithin}
 use Rattle.sheet.specs.Answers.{Answer, refused, accepted}
 use Rattle.sheet.proofs.Limits.{within-bounds}
@@ -13,12 +14,8 @@ use Rattle.reading.specs.Outcome.{outcome, tableIn, LeavesOff, ReadsFront}
 use Rattle.reading.specs.declared.Answer.the-variants.{Refused, Accepted}
 use Rattle.reading.specs.declared.Front.{Front}
 use Rattle.lexing.specs.declared.tokens.Cursor.{Cursor}
-use Rattle.reading.proofs.OutcomeTable.{tableIn-accepted}
+use Rattle.reading.proofs.Composed.{HasTable, accepted-has-table}
 use Rattle.reading.proofs.AtFront.{front-passes}
-
--- counts and a table
-abbrev pub contents : Sheet → List (List ℕ) → Contents
-contents counts table = record { agents = counts .agents; items = counts .items; table = table }
 
 -- the counts of a sheet that is accepted are within the limits
 pub readingFront-counts : (text : List ℕ) (c : Contents) (behind : List Token) → readingFront text ≡ accepted (c, behind) → CountsWithin (c .agents) (c .items)
@@ -32,23 +29,30 @@ refused-of : (a : Answer (Contents × List Token)) (number : ℕ) → outcome (s
 refused-of (refused k) number e = cc
 refused-of (accepted p) number e = cc
 
+-- a sheet that is accepted, with the counts and the table that were read, and what stands behind it
+pub record FrontRead (text : List ℕ) (place : Cursor) (a : Answer (Contents × List Token)) (counts : Sheet) (table : List (List ℕ)) : Type 0 where
+  pub sheet : Contents
+  pub is-accepted : a ≡ accepted (sheet, tokensAt text place)
+  pub has-table : HasTable counts table sheet
+
 accepted-of : (s : List ℕ) (place : Cursor) (a : Answer (Contents × List Token)) (counts : Sheet) → outcome (sheetOf a) .answer ≡ Accepted counts → LeavesOff s place a
-    → a ≡ accepted (contents counts (tableIn (outcome (sheetOf a) .rows)), tokensAt s place)
-accepted-of s place (refused k) counts e left = cc
+    → FrontRead s place a counts (tableIn (outcome (sheetOf a) .rows))
+accepted-of s place (refused k) counts e left = let z : _≡_ {A = ℕ} 0 1 = cc in absurd (omega arith)
 accepted-of s place (accepted (sheet, ts)) counts e left =
-    let same : counts ≡ record { agents = sheet .agents; items = sheet .items } = cc in
-    sym (ap accepted (ap₂ (λ c t. (c, t)) (ap₂ contents same (tableIn-accepted sheet)) (left .1)))
+    record { sheet = sheet; is-accepted = sym (ap (λ t. accepted (sheet, t)) (left .1)); has-table = accepted-has-table sheet e }
 
 module _ (text : List ℕ) {front : Front} (read : ReadsFront text front (readingFront text)) where
   pub refused-front : {number : ℕ} → front .outcome .answer ≡ Refused number → readingFront text ≡ refused number
   refused-front {number} e = refused-of (readingFront text) number (sym (ap (λ o. o .answer) (read .sheet-read)) ∙ e)
 
   module _ {counts : Sheet} {table : List (List ℕ)} (e : front .outcome .answer ≡ Accepted counts) (rows : table ≡ tableIn (front .outcome .rows)) where
-    pub accepted-front : readingFront text ≡ accepted (contents counts table, tokensAt text (front .next))
+    pub accepted-front : FrontRead text (front .next) (readingFront text) counts table
     accepted-front =
-        accepted-of text (front .next) (readingFront text) counts (sym (ap (λ o. o .answer) (read .sheet-read)) ∙ e) (read .left-off)
-        ∙ sym (ap (λ t. accepted (contents counts t, tokensAt text (front .next))) (rows ∙ ap (λ o. tableIn (o .rows)) (read .sheet-read)))
+        subst (FrontRead text (front .next) (readingFront text) counts) (sym (rows ∙ ap (λ o. tableIn (o .rows)) (read .sheet-read)))
+        (accepted-of text (front .next) (readingFront text) counts (sym (ap (λ o. o .answer) (read .sheet-read)) ∙ e) (read .left-off))
 
     -- the counts are within the limits
     pub front-counts : CountsWithin (counts .agents) (counts .items)
-    front-counts = readingFront-counts text (contents counts table) (tokensAt text (front .next)) accepted-front
+    front-counts =
+        let told = accepted-front in
+        rw (told .has-table .agents-are, told .has-table .items-are) at (readingFront-counts text (told .sheet) (tokensAt text (front .next)) (told .is-accepted))

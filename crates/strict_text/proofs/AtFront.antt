@@ -13,10 +13,10 @@ use Rattle.lexing.specs.Tokens.{tokens}
 use Rattle.lexing.proofs.texts.BehindLine.{tokens-behind-line}
 use Rattle.reading.specs.Reading.{Contents, reading, readingFront}
 use Rattle.reading.proofs.AtFront.{passes-front}
-use Rattle.strict_text.specs.StrictText.{headText, yardTexts, sheetText, strictText}
+use Rattle.strict_text.specs.StrictText.{headText, bodyText, sheetText, linesOf, strictText}
 use Rattle.strict_text.specs.WithinLimits.{WithinLimits}
 use Rattle.strict_text.proofs.SheetLexed.{tokens-sheetText}
-use Rattle.strict_text.proofs.RoundTrip.{rowsOf, sheetTokens-accepted, strictText-read, accepted-tokens, reading-withinLimits}
+use Rattle.strict_text.proofs.RoundTrip.{sheetTokens-accepted, strictText-read, accepted-tokens, reading-withinLimits}
 
 nonempty : (s t : List ℕ) → 0 < length (s ++ lineFeed ∷ t)
 nonempty [] t = omega arith
@@ -27,14 +27,14 @@ pub accepted-at-front : (c : Contents) (s t : List ℕ) → reading (s ++ lineFe
     → readingFront (s ++ lineFeed ∷ t) ≡ accepted (c, tokens t)
 unfolding strictText
 accepted-at-front c s t e few =
-    let strict = accepted-tokens c (s ++ lineFeed ∷ []) e ∙ tokens-sheetText (c .agents) (c .items) (rowsOf c) in
+    let strict = accepted-tokens c (s ++ lineFeed ∷ []) e ∙ tokens-sheetText (c .agents) (c .items) (linesOf c) in
     let same = tokens-behind-line s t ∙ ap (λ ts. ts ++ tokens t) strict in
     passes-front (s ++ lineFeed ∷ t) c (tokens t)
     (sheetTokens-accepted c (reading-withinLimits c (s ++ lineFeed ∷ []) e) (s ++ lineFeed ∷ t) (tokens t) (nonempty s t) few same)
 
 -- a strict text up to its last byte, a line feed
 abbrev unended : Contents → List ℕ
-unended c = headText (c .agents) (c .items) ++ yardTexts 1 (rowsOf c) ++ bytes "(end)"
+unended c = headText (c .agents) (c .items) ++ bodyText (linesOf c) ++ bytes "(end)"
 
 strictText-ended : (c : Contents) (t : List ℕ) → strictText c ++ t ≡ unended c ++ lineFeed ∷ t
 unfolding strictText sheetText

@@ -1,6 +1,7 @@
 -- The marks in use of a table, the lengths of its rows, and its lines one behind the other. Assumes nothing.
 use mathlib.Core.Path.{_≡_, refl, sym, ap, ap₂, _∙_}
 use mathlib.Core.List.{List, [], _∷_, _++_, map, map-append, append-nil, append-assoc}
+use mathlib.Core.Option.{some}
 use Prim.Native.Nat.{ℕ, _+_, _-_, _≤_, _<_}
 use native.Mathlib.Numerals.{add-one}
 use native.Mathlib.Omega.{arith}
@@ -9,9 +10,15 @@ use lib.Seq.{take-suc, take-at, length-take-le}
 use Rattle.lists.specs.Lists.{padded}
 use Rattle.lists.proofs.places.Padding.{length-padded}
 use Rattle.lists.proofs.members.Each.{AllOfLength, each-append, each-take, each-map, each-replicate}
-use Rattle.sheet.specs.Limits.{mostAgents, mostItems, blankRow}
-use Rattle.reading.specs.Reading.{tableOf}
-use Rattle.strict_text.specs.StrictText.{yardText, yardTexts, inUse}
+use Rattle.sheet.specs.Limits.{MarkLimits, mostAgents, mostItems, blankRow}
+use Rattle.sheet.specs.Answers.{accepted}
+use Rattle.lexing.specs.Tokens.{Token}
+use Rattle.sheet_lines.specs.Grammar.{Body, body}
+use Rattle.sheet_lines.specs.Kept.{tableOf}
+use Rattle.sheet_lines.proofs.Shape.{lines-shape}
+use Rattle.reading.specs.Reading.{Contents, contentsOf}
+use Rattle.reading.proofs.Accepted.{contentsOf-carried}
+use Rattle.strict_text.specs.StrictText.{yardText, yardTexts, inUse, linesOf}
 
 -- the marks in use of the table of some rows are these rows
 take-padded-rows : (items : ℕ) (rows : List (List ℕ)) → AllOfLength items rows → map (take items) (map (padded mostItems 0) rows) ≡ rows
@@ -62,3 +69,15 @@ yardTexts-next items table i more =
     ∙ ap (yardTexts 1) (map-append (take items) (take i table) (getD table i [] ∷ []))
     ∙ yardTexts-snoc 1 (inUse i items table) (take items (getD table i []))
     ∙ ap (λ k. yardTexts 1 (inUse i items table) ++ yardText (k + 1) (take items (getD table i []))) rows
+
+-- the lines of what lines carry are these lines
+pub lines-carried : (limits : MarkLimits) (agents items : ℕ) (ts : List Token) (lines : Body) (last : List Token) (c : Contents) → body (limits .digits) agents items ts ≡ some (lines, last)
+    → contentsOf limits agents items lines ≡ accepted c → linesOf c ≡ lines
+lines-carried limits agents items ts lines last c are carries =
+    let shape = lines-shape (limits .digits) agents items ts lines last are in
+    let told = contentsOf-carried limits agents items lines c carries in
+    rw (told .agents-are, told .items-are, told .table-is) (ap (λ rows. record { rows = rows }) (inUse-tableOf agents items (lines .rows) (shape .0) (shape .1)))
+
+-- what is carried, with nothing in the places that are not in use
+abbrev pub blankedBeyond : Contents → Contents
+blankedBeyond c = record { agents = c .agents; items = c .items; table = tableOf (linesOf c .rows) }

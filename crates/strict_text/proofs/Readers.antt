@@ -13,9 +13,9 @@ use Rattle.lexing.specs.Tokens.{Token}
 use Rattle.sheet.specs.Limits.{countDigits}
 use Rattle.lexing.specs.Forms.{_>>=_, same, form, follow, inTurn}
 use Rattle.lexing.specs.Numbers.{isNumber, digitsAfter, number, numberAfter, followNumber}
-use Rattle.reading.specs.SheetForms.{beforeAgents, beforeItems, beforeTurn, beforeMarks, lineEnd, lastLine}
-use Rattle.reading.specs.Grammar.{head, marks, yardTurn, yardLine, yardLines}
-use Rattle.strict_text.proofs.SheetTokens.{headTokens, tokensInTurn, turnTokens, yardTokens, yardsTokens}
+use Rattle.sheet_lines.specs.SheetForms.{beforeAgents, beforeItems, beforeTurn, beforeMarks, lineEnd, lastLine}
+use Rattle.sheet_lines.specs.Grammar.{head, marks, yardTurn, yardLine, yardLines, Body, body}
+use Rattle.strict_text.proofs.SheetTokens.{headTokens, tokensInTurn, turnTokens, yardTokens, yardsTokens, bodyTokens}
 use Rattle.lexing.proofs.readers.Same.{same-true}
 use Rattle.lexing.proofs.readers.Tested.{passed}
 use Rattle.lexing.proofs.readers.Decimal.{decimal-of-value}
@@ -129,9 +129,17 @@ yardLine-inverse digits items turn ts r e =
     let all-read = two-read (row .first .0) (line .first) r (line .then-read) in
     simp append-assoc (cc)
 
-pub yardLines-inverse : (digits agents items : ℕ) (ts : List Token) (r : List (List ℕ) × List Token) → yardLines digits agents items ts ≡ some r
+yardLines-inverse : (digits agents items : ℕ) (ts : List Token) (r : List (List ℕ) × List Token) → yardLines digits agents items ts ≡ some r
     → ts ≡ yardsTokens 1 (r .0) ++ r .1
 yardLines-inverse digits agents items = inTurn-inverse (yardLine digits items) yardTokens (yardLine-inverse digits items) 1 agents
+
+pub body-inverse : (digits agents items : ℕ) (ts : List Token) (r : Body × List Token) → body digits agents items ts ≡ some r → ts ≡ bodyTokens (r .0) ++ r .1
+unfolding body bodyTokens
+body-inverse digits agents items ts r e =
+    let lines = bound (yardLines digits agents items ts) _ r e in
+    let to-end = yardLines-inverse digits agents items ts (lines .first) (lines .first-read) in
+    let all-read : _≡_ {A = Body × List Token} (record { rows = lines .first .0 }, lines .first .1) r = Option·some-injective _ _ (lines .then-read) in
+    to-end ∙ ap (λ q. yardsTokens 1 (q .0 .rows) ++ q .1) all-read
 
 pub lastLine-inverse : (ts behind : List Token) → follow (form lastLine) ts ≡ some behind → ts ≡ form lastLine ++ behind
 lastLine-inverse ts behind = follow-inverse (form lastLine) ts behind (tokens-have-bytes (bytes lastLine))

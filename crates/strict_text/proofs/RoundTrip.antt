@@ -17,28 +17,25 @@ use Rattle.sheet.proofs.Limits.{within-bounds}
 use Rattle.lexing.specs.Tokens.{Token, tokens}
 use Rattle.lexing.specs.Forms.{form}
 use Rattle.lexing.proofs.readers.Written.{follow-append}
-use Rattle.reading.specs.SheetForms.{lastLine}
-use Rattle.reading.specs.Grammar.{head}
-use Rattle.reading.specs.Reading.{Contents, allowedRow, tableOf, reading}
-use Rattle.reading.proofs.Accepted.{AcceptedText, passes-sheet, accepted-injective, accepted-text}
-use Rattle.reading.proofs.Shape.{lines-read-shape}
-use Rattle.strict_text.specs.StrictText.{headText, inUse, sheetText, strictText}
+use Rattle.sheet_lines.specs.SheetForms.{lastLine}
+use Rattle.sheet_lines.specs.Grammar.{head, Body}
+use Rattle.sheet_lines.specs.Marks.{allowedRow}
+use Rattle.sheet_lines.specs.Kept.{tableOf}
+use Rattle.reading.specs.Reading.{Contents, reading}
+use Rattle.reading.proofs.Accepted.{AcceptedText, carried-contentsOf, passes-sheet, accepted-injective, accepted-text, accepted-carried}
+use Rattle.strict_text.specs.StrictText.{headText, sheetText, linesOf, strictText}
 use Rattle.strict_text.specs.WithinLimits.{WithinLimits}
-use Rattle.strict_text.proofs.SheetTokens.{headTokens, yardsTokens, sheetTokens}
+use Rattle.strict_text.proofs.SheetTokens.{headTokens, bodyTokens, sheetTokens}
 use Rattle.strict_text.proofs.SheetLexed.{tokens-sheetText}
-use Rattle.strict_text.proofs.Readers.{head-inverse, yardLines-inverse, lastLine-inverse}
-use Rattle.strict_text.proofs.TokensRead.{head-headTokens, yardLines-yardsTokens}
-use Rattle.strict_text.proofs.InUse.{inUse-tableOf, inUse-rows, inUse-places}
+use Rattle.strict_text.proofs.Readers.{head-inverse, body-inverse, lastLine-inverse}
+use Rattle.strict_text.proofs.TokensRead.{head-headTokens, body-bodyTokens}
+use Rattle.strict_text.proofs.InUse.{inUse-tableOf, inUse-rows, inUse-places, lines-carried, blankedBeyond}
 use Rattle.strict_text.proofs.WithinLimits.{agents-bounds, items-bounds, rows-in-use, marks-in-use}
 use Rattle.strict_text.proofs.TextLength.{length-strictText}
 
-sheetText-nonempty : (agents items : ℕ) (rows : List (List ℕ)) → 0 < length (sheetText agents items rows)
+sheetText-nonempty : (agents items : ℕ) (lines : Body) → 0 < length (sheetText agents items lines)
 unfolding sheetText headText
-sheetText-nonempty agents items rows = omega arith
-
--- the rows of marks in use
-abbrev pub rowsOf : Contents → List (List ℕ)
-rowsOf c = inUse (c .agents) (c .items) (c .table)
+sheetText-nonempty agents items lines = omega arith
 
 module _ (c : Contents) where
   -- the strict text of what is within the limits is no longer than a text may be, and is read to just that
@@ -48,65 +45,62 @@ module _ (c : Contents) where
 
     -- a text of the sheet's tokens, with others behind them
     pub sheetTokens-accepted : (text : List ℕ) (behind : List Token) → 0 < length text → length text ≤ longestText
-        → tokens text ≡ sheetTokens (c .agents) (c .items) (rowsOf c) ++ behind → AcceptedText markLimits text c behind
+        → tokens text ≡ sheetTokens (c .agents) (c .items) (linesOf c) ++ behind → AcceptedText markLimits text c behind
     unfolding sheetTokens
     sheetTokens-accepted text behind some-byte short same =
         let few-agents = agents-bounds w .1 in
         let few-items = items-bounds w .1 in
-        let rows = rows-in-use w in
         let last = form lastLine ++ behind in
-        let lines = rw rows at (yardLines-yardsTokens 1 (c .items) (rowsOf c) last (omega arith) (marks-in-use w) (w .marks-allowed)) in
         record {
           short = le-leb (length text) longestText short;
           some-byte = lt-ltb 0 (length text) some-byte;
-          after-head = yardsTokens 1 (rowsOf c) ++ last;
+          after-head = bodyTokens (linesOf c) ++ last;
           head-is =
-              ap head (same ∙ append-assoc (headTokens (c .agents) (c .items)) _ behind ∙ ap (λ ts. headTokens (c .agents) (c .items) ++ ts) (append-assoc (yardsTokens 1 (rowsOf c)) (form lastLine) behind))
-              ∙ head-headTokens (c .agents) (c .items) (yardsTokens 1 (rowsOf c) ++ last) (omega arith) (omega arith);
+              ap head (same ∙ append-assoc (headTokens (c .agents) (c .items)) _ behind ∙ ap (λ ts. headTokens (c .agents) (c .items) ++ ts) (append-assoc (bodyTokens (linesOf c)) (form lastLine) behind))
+              ∙ head-headTokens (c .agents) (c .items) (bodyTokens (linesOf c) ++ last) (omega arith) (omega arith);
           agents-within = w .agents-within;
           items-within = w .items-within;
-          rows = rowsOf c;
+          lines = linesOf c;
           last = last;
-          lines-are = lines;
+          lines-are = body-bodyTokens (c .agents) (c .items) (linesOf c) last (omega arith) (rows-in-use w) (marks-in-use w) (w .marks-allowed);
           ends = follow-append (form lastLine) behind;
-          marks-allowed = w .marks-allowed;
-          table-is = w .blank-beyond;
+          carries = carried-contentsOf markLimits (linesOf c) c (w .marks-allowed) (w .blank-beyond);
         }
 
     pub strictText-read : reading (strictText c) ≡ accepted c
     unfolding reading strictText
     strictText-read =
-        let text = sheetText (c .agents) (c .items) (rowsOf c) in
-        let same = tokens-sheetText (c .agents) (c .items) (rowsOf c) ∙ sym (append-nil (sheetTokens (c .agents) (c .items) (rowsOf c))) in
-        passes-sheet markLimits text c (sheetTokens-accepted text [] (sheetText-nonempty (c .agents) (c .items) (rowsOf c)) strictText-length same)
+        let text = sheetText (c .agents) (c .items) (linesOf c) in
+        let same = tokens-sheetText (c .agents) (c .items) (linesOf c) ∙ sym (append-nil (sheetTokens (c .agents) (c .items) (linesOf c))) in
+        passes-sheet markLimits text c (sheetTokens-accepted text [] (sheetText-nonempty (c .agents) (c .items) (linesOf c)) strictText-length same)
 
   -- an accepted text: what it is read to is within the limits, its tokens are those of the strict text, and that is read back
   module _ (text : List ℕ) (e : reading text ≡ accepted c) where
-    rows-accepted : rowsOf c ≡ accepted-text text c e .rows
-    rows-accepted =
+    lines-accepted : linesOf c ≡ accepted-text text c e .lines
+    lines-accepted =
         let a = accepted-text text c e in
-        let shape = lines-read-shape markDigits (c .agents) (c .items) (a .after-head) (a .rows) (a .last) (a .lines-are) in
-        ap (inUse (c .agents) (c .items)) (a .table-is) ∙ inUse-tableOf (c .agents) (c .items) (a .rows) (shape .0) (shape .1)
+        lines-carried markLimits (c .agents) (c .items) (a .after-head) (a .lines) (a .last) c (a .lines-are) (a .carries)
 
     pub accepted-tokens : tokens text ≡ tokens (strictText c)
     unfolding strictText sheetTokens
     accepted-tokens =
         let a = accepted-text text c e in
         let from-head = head-inverse (tokens text) (c .agents, c .items, a .after-head) (a .head-is) in
-        let from-lines = yardLines-inverse markDigits (c .agents) (c .items) (a .after-head) (a .rows, a .last) (a .lines-are) in
+        let from-lines = body-inverse markDigits (c .agents) (c .items) (a .after-head) (a .lines, a .last) (a .lines-are) in
         let from-end = lastLine-inverse (a .last) [] (a .ends) ∙ append-nil (form lastLine) in
-        let used = rows-accepted in
-        let strict = tokens-sheetText (c .agents) (c .items) (rowsOf c) in
+        let used = ap bodyTokens lines-accepted in
+        let strict = tokens-sheetText (c .agents) (c .items) (linesOf c) in
         cc
 
     pub reading-withinLimits : WithinLimits c
     reading-withinLimits =
         let a = accepted-text text c e in
+        let told = accepted-carried text c e in
         record {
           agents-within = a .agents-within;
           items-within = a .items-within;
-          blank-beyond = a .table-is ∙ ap tableOf (sym rows-accepted);
-          marks-allowed = ap (all (allowedRow greatestMark)) rows-accepted ∙ a .marks-allowed;
+          blank-beyond = told .table-is ∙ ap (λ lines. tableOf (lines .rows)) (sym lines-accepted);
+          marks-allowed = ap (λ lines. all (allowedRow greatestMark) (lines .rows)) lines-accepted ∙ told .marks-allowed;
         }
 
     pub accepted-read-back : reading (strictText c) ≡ accepted c
@@ -121,14 +115,14 @@ strictText-same-iff s t c d e f =
 
 -- whatever stands in the places that are not in use, the strict text is read to the marks in use
 pub strictText-read-inUse : (c : Contents) → within mostAgents (c .agents) ≡ true → within mostItems (c .items) ≡ true
-    → length (c .table) ≡ mostAgents → AllOfLength mostItems (c .table) → all (allowedRow greatestMark) (rowsOf c) ≡ true
-    → reading (strictText c) ≡ accepted (record { agents = c .agents; items = c .items; table = tableOf (rowsOf c) })
+    → length (c .table) ≡ mostAgents → AllOfLength mostItems (c .table) → all (allowedRow greatestMark) (linesOf c .rows) ≡ true
+    → reading (strictText c) ≡ accepted (blankedBeyond c)
 unfolding strictText
 strictText-read-inUse c y p n l f =
     let few-agents = within-bounds mostAgents (c .agents) y .1 in
     let few-items = within-bounds mostItems (c .items) p .1 in
-    let used = inUse-tableOf (c .agents) (c .items) (rowsOf c) (inUse-rows (c .agents) (c .items) (c .table) (omega arith)) (inUse-places (c .agents) (c .items) (c .table) mostItems few-items l) in
-    let blanked : Contents = record { agents = c .agents; items = c .items; table = tableOf (rowsOf c) } in
-    let within-limits : WithinLimits blanked
+    let rows = linesOf c .rows in
+    let used = inUse-tableOf (c .agents) (c .items) rows (inUse-rows (c .agents) (c .items) (c .table) (omega arith)) (inUse-places (c .agents) (c .items) (c .table) mostItems few-items l) in
+    let within-limits : WithinLimits (blankedBeyond c)
     = record { agents-within = y; items-within = p; blank-beyond = ap tableOf (sym used); marks-allowed = ap (all (allowedRow greatestMark)) used ∙ f } in
-    ap (λ rows. reading (sheetText (c .agents) (c .items) rows)) (sym used) ∙ strictText-read blanked within-limits
+    ap (λ rows. reading (sheetText (c .agents) (c .items) (record { rows = rows }))) (sym used) ∙ strictText-read (blankedBeyond c) within-limits

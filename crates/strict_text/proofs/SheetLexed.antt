@@ -9,9 +9,10 @@ use Rattle.lexing.specs.Tokens.{opening, closing, tokens}
 use Rattle.lexing.specs.Forms.{form}
 use Rattle.lexing.proofs.texts.Parts.{begunAfter, Lexes, lexed-tokens, _then_, nothing-lexed, space-lexed, bracketed-lexed}
 use Rattle.lexing.proofs.texts.Numbers.{number-lexed, numbers-lexed}
-use Rattle.reading.specs.SheetForms.{beforeTurn, beforeMarks, lineEnd, lastLine}
-use Rattle.strict_text.specs.StrictText.{headText, yardText, yardTexts, sheetText}
-use Rattle.strict_text.proofs.SheetTokens.{headTokens, turnTokens, yardTokens, tokensInTurn, yardsTokens, sheetTokens}
+use Rattle.sheet_lines.specs.SheetForms.{beforeTurn, beforeMarks, lineEnd, lastLine}
+use Rattle.sheet_lines.specs.Grammar.{Body}
+use Rattle.strict_text.specs.StrictText.{headText, yardText, yardTexts, bodyText, sheetText}
+use Rattle.strict_text.proofs.SheetTokens.{headTokens, turnTokens, yardTokens, tokensInTurn, yardsTokens, bodyTokens, sheetTokens}
 
 -- the end of a line, and the lines
 pub line-end-lexed : Lexes true (bytes lineEnd) (form lineEnd) false
@@ -40,15 +41,18 @@ unfolding yardTexts tokensInTurn
 yards-lexed yard [] = nothing-lexed
 yards-lexed yard (row ∷ rows) = yard-lexed yard row then yards-lexed (yard + 1) rows
 
+body-lexed : (lines : Body) → Lexes false (bodyText lines) (bodyTokens lines) false
+unfolding bodyText bodyTokens
+body-lexed lines = yards-lexed 1 (lines .rows)
+
 pub last-line-lexed : Lexes false (bytes lastLine) (form lastLine) false
 unfolding begunAfter
 last-line-lexed = bracketed-lexed opening (bytes "end)\n") refl refl
 
-sheet-lexed : (agents items : ℕ) (rows : List (List ℕ))
-    → Lexes false (sheetText agents items rows) (headTokens agents items ++ yardsTokens 1 rows ++ form lastLine) false
+sheet-lexed : (agents items : ℕ) (lines : Body) → Lexes false (sheetText agents items lines) (headTokens agents items ++ bodyTokens lines ++ form lastLine) false
 unfolding sheetText
-sheet-lexed agents items rows = head-lexed agents items then yards-lexed 1 rows then last-line-lexed
+sheet-lexed agents items lines = head-lexed agents items then body-lexed lines then last-line-lexed
 
-pub tokens-sheetText : (agents items : ℕ) (rows : List (List ℕ)) → tokens (sheetText agents items rows) ≡ sheetTokens agents items rows
+pub tokens-sheetText : (agents items : ℕ) (lines : Body) → tokens (sheetText agents items lines) ≡ sheetTokens agents items lines
 unfolding sheetTokens
-tokens-sheetText agents items rows = lexed-tokens (sheet-lexed agents items rows) ∙ append-assoc (headTokens agents items) (yardsTokens 1 rows) (form lastLine)
+tokens-sheetText agents items lines = lexed-tokens (sheet-lexed agents items lines) ∙ append-assoc (headTokens agents items) (bodyTokens lines) (form lastLine)

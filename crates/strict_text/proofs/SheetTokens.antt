@@ -4,7 +4,8 @@ use Prim.Native.Nat.{ℕ, _+_}
 use Rattle.text.specs.Decimal.{decimal}
 use Rattle.lexing.specs.Tokens.{Token}
 use Rattle.lexing.specs.Forms.{form}
-use Rattle.reading.specs.SheetForms.{beforeAgents, beforeItems, beforeTurn, beforeMarks, lineEnd, lastLine}
+use Rattle.sheet_lines.specs.SheetForms.{beforeAgents, beforeItems, beforeTurn, beforeMarks, lineEnd, lastLine}
+use Rattle.sheet_lines.specs.Grammar.{Body}
 
 -- the tokens of the head
 unfoldable pub headTokens : ℕ → ℕ → List Token
@@ -25,6 +26,10 @@ yardTokens yard row = turnTokens yard ++ map decimal row ++ form lineEnd
 abbrev pub yardsTokens : ℕ → List (List ℕ) → List Token
 yardsTokens yard rows = tokensInTurn yardTokens yard rows
 
--- the tokens of a sheet with these rows of marks
-unfoldable pub sheetTokens : ℕ → ℕ → List (List ℕ) → List Token
-sheetTokens agents items rows = headTokens agents items ++ (yardsTokens 1 rows ++ form lastLine)
+-- the tokens of the lines between the first line and the line `(end)`
+unfoldable pub bodyTokens : Body → List Token
+bodyTokens lines = yardsTokens 1 (lines .rows)
+
+-- the tokens of a sheet with these counts and these lines
+unfoldable pub sheetTokens : ℕ → ℕ → Body → List Token
+sheetTokens agents items lines = headTokens agents items ++ (bodyTokens lines ++ form lastLine)

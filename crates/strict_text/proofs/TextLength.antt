@@ -11,8 +11,9 @@ use Rattle.lists.proofs.members.Each.{AllOfLength}
 use Rattle.text.specs.Decimal.{decimal, spacedNumbers}
 use Rattle.text.proofs.Decimal.{decimal-length}
 use Rattle.sheet.specs.Limits.{mostItems, greatestMark, markDigits}
-use Rattle.reading.specs.Reading.{Contents, allowed, allowedRow}
-use Rattle.strict_text.specs.StrictText.{headText, yardText, yardTexts, inUse, sheetText, strictText, longestHead, longestYard, longestStrict}
+use Rattle.sheet_lines.specs.Marks.{allowed, allowedRow}
+use Rattle.reading.specs.Reading.{Contents}
+use Rattle.strict_text.specs.StrictText.{headText, yardText, yardTexts, inUse, bodyText, sheetText, strictText, longestHead, longestYard, longestStrict}
 use Rattle.strict_text.specs.WithinLimits.{WithinLimits}
 use Rattle.strict_text.proofs.WithinLimits.{agents-bounds, items-bounds, rows-in-use, marks-in-use}
 
@@ -46,7 +47,7 @@ yards-length yard items (row ∷ rows) y p l f =
 
 -- no strict text of a table within the limits is longer
 pub length-strictText : {c : Contents} → WithinLimits c → length (strictText c) ≤ longestStrict
-unfolding strictText sheetText
+unfolding strictText sheetText bodyText
 length-strictText {c} w =
     let few = agents-bounds w .1 in
     let few-items = items-bounds w .1 in

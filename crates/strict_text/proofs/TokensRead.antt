@@ -13,11 +13,11 @@ use Rattle.lists.specs.Lists.{all}
 use Rattle.lists.proofs.members.Each.{AllOfLength}
 use Rattle.lexing.specs.Forms.{form, inTurn}
 use Rattle.lexing.specs.Numbers.{number}
-use Rattle.reading.specs.SheetForms.{beforeAgents, beforeItems, beforeTurn, beforeMarks, lineEnd}
-use Rattle.reading.specs.Grammar.{head, yardTurn, yardLine}
+use Rattle.sheet_lines.specs.SheetForms.{beforeAgents, beforeItems, beforeTurn, beforeMarks, lineEnd}
+use Rattle.sheet_lines.specs.Grammar.{head, yardTurn, yardLine, Body, body}
 use Rattle.sheet.specs.Limits.{greatestMark, countDigits, markDigits}
-use Rattle.reading.specs.Reading.{allowed, allowedRow}
-use Rattle.strict_text.proofs.SheetTokens.{headTokens, turnTokens, yardTokens, tokensInTurn, yardsTokens}
+use Rattle.sheet_lines.specs.Marks.{allowed, allowedRow}
+use Rattle.strict_text.proofs.SheetTokens.{headTokens, turnTokens, yardTokens, tokensInTurn, yardsTokens, bodyTokens}
 use Rattle.lexing.proofs.readers.Written.{follow-append, number-decimal, numberAfter-decimal, followNumber-decimal}
 
 pub head-headTokens : (agents items : ℕ) (ts : List Token) → agents < 10 ^ countDigits → items < 10 ^ countDigits
@@ -43,7 +43,7 @@ yardLine-yardTokens : (turn : ℕ) (row : List ℕ) (ts : List Token) → turn <
 unfolding yardLine yardTokens
 yardLine-yardTokens turn row ts h f = simp append-assoc (rw (yardTurn-turnTokens turn _ h, marks-decimals 1 row _ f, follow-append (form lineEnd) ts))
 
-pub yardLines-yardsTokens : (turn items : ℕ) (rows : List (List ℕ)) (ts : List Token) → turn + length rows ≤ 10 ^ countDigits → AllOfLength items rows
+yardLines-yardsTokens : (turn items : ℕ) (rows : List (List ℕ)) (ts : List Token) → turn + length rows ≤ 10 ^ countDigits → AllOfLength items rows
     → all (allowedRow greatestMark) rows ≡ true → inTurn (yardLine markDigits items) turn (length rows) (yardsTokens turn rows ++ ts) ≡ some (rows, ts)
 unfolding inTurn tokensInTurn
 yardLines-yardsTokens turn items [] ts h l f = refl
@@ -51,3 +51,10 @@ yardLines-yardsTokens turn items (row ∷ rows) ts h l f =
     let both = and-eq-true-iff (allowedRow greatestMark row) (all (allowedRow greatestMark) rows) .0 f in
     let this = rw (l .0) at (yardLine-yardTokens turn row (yardsTokens (turn + 1) rows ++ ts) (omega arith) (both .0)) in
     simp append-assoc (rw (this, yardLines-yardsTokens (turn + 1) items rows ts (omega arith) (l .1) (both .1)))
+
+-- the lines of a sheet with these counts
+pub body-bodyTokens : (agents items : ℕ) (lines : Body) (ts : List Token) → agents < 10 ^ countDigits → length (lines .rows) ≡ agents → AllOfLength items (lines .rows)
+    → all (allowedRow greatestMark) (lines .rows) ≡ true → body markDigits agents items (bodyTokens lines ++ ts) ≡ some (lines, ts)
+unfolding body bodyTokens
+body-bodyTokens agents items lines ts few n l f =
+    rw (rw n at (yardLines-yardsTokens 1 items (lines .rows) ts (omega (arith, n)) l f))

@@ -6,7 +6,8 @@ use lib.ListN.{take}
 use Rattle.text.specs.Bytes.{bytes}
 use Rattle.text.specs.Decimal.{spacedNumber, spacedNumbers}
 use Rattle.sheet.specs.Limits.{mostAgents, mostItems, markDigits}
-use Rattle.reading.specs.SheetForms.{beforeAgents, beforeItems, beforeTurn, beforeMarks, lineEnd, lastLine}
+use Rattle.sheet_lines.specs.SheetForms.{beforeAgents, beforeItems, beforeTurn, beforeMarks, lineEnd, lastLine}
+use Rattle.sheet_lines.specs.Grammar.{Body}
 use Rattle.reading.specs.Reading.{Contents}
 
 -- "The first line gives the counts": (sheet (yards 2) (pieces 3))
@@ -26,12 +27,20 @@ yardTexts yard (row ∷ rows) = yardText yard row ++ yardTexts (yard + 1) rows
 abbrev pub inUse : ℕ → ℕ → List (List ℕ) → List (List ℕ)
 inUse agents items table = map (take items) (take agents table)
 
--- the text of a sheet with these counts and these rows of marks
-unfoldable pub sheetText : ℕ → ℕ → List (List ℕ) → List ℕ
-sheetText agents items rows = headText agents items ++ yardTexts 1 rows ++ bytes lastLine
+-- the lines between the first line and the line `(end)`
+unfoldable pub bodyText : Body → List ℕ
+bodyText lines = yardTexts 1 (lines .rows)
+
+-- the text of a sheet with these counts and these lines
+unfoldable pub sheetText : ℕ → ℕ → Body → List ℕ
+sheetText agents items lines = headText agents items ++ bodyText lines ++ bytes lastLine
+
+-- the lines of what a sheet carries
+abbrev pub linesOf : Contents → Body
+linesOf c = record { rows = inUse (c .agents) (c .items) (c .table) }
 
 unfoldable pub strictText : Contents → List ℕ
-strictText c = sheetText (c .agents) (c .items) (inUse (c .agents) (c .items) (c .table))
+strictText c = sheetText (c .agents) (c .items) (linesOf c)
 
 -- the most bytes of the head of a table within the limits: (sheet (yards 6) (pieces 12)) and the line feed
 abbrev pub longestHead : ℕ

@@ -3,7 +3,9 @@ use mathlib.Core.Path.{_≡_}
 use mathlib.Core.Bool.{true}
 use Rattle.lists.specs.Lists.{all}
 use Rattle.sheet.specs.Limits.{mostAgents, mostItems, greatestMark, within}
-use Rattle.reading.specs.Reading.{Contents, allowedRow, tableOf}
+use Rattle.sheet_lines.specs.Marks.{allowedRow}
+use Rattle.sheet_lines.specs.Kept.{tableOf}
+use Rattle.reading.specs.Reading.{Contents}
 use Rattle.strict_text.specs.StrictText.{inUse}
 
 pub record WithinLimits (c : Contents) : Type 0 where

@@ -5,17 +5,17 @@ ghost use lib.ListN.{length, take};
 ghost use Rattle.text.specs.Decimal.{spacedNumber, spacedNumbers};
 ghost use Rattle.strict_text.specs.StrictText.{headText, yardText, yardTexts, inUse, strictText};
 ghost use Rattle.strict_writing.specs.internal.Bounds.{numberBound, headBound, marksBound, lineBound, linesBound};
-use reading::forms::BEFORE_AGENTS;
-use reading::forms::BEFORE_ITEMS;
-use reading::forms::BEFORE_MARKS;
-use reading::forms::BEFORE_TURN;
-use reading::forms::LAST_LINE;
-use reading::forms::LINE_END;
 use sheet::Mark;
 use sheet::Row;
 use sheet::Sheet;
 use sheet::Table;
 use sheet::lesser;
+use sheet_lines::forms::BEFORE_AGENTS;
+use sheet_lines::forms::BEFORE_ITEMS;
+use sheet_lines::forms::BEFORE_MARKS;
+use sheet_lines::forms::BEFORE_TURN;
+use sheet_lines::forms::LAST_LINE;
+use sheet_lines::forms::LINE_END;
 use writing::number_length;
 
 // A number and the space in front of it.

@@ -8,12 +8,11 @@ use lib.ListN.{length, take}
 use Rattle.lists.proofs.members.Permuted.{length-perm, total-perm}
 use Rattle.sheet.specs.Limits.{mostItems}
 use Rattle.growth.specs.Growth.{growths}
-use Rattle.cut.specs.Share.{maximinShare, maximinPartition}
-use Rattle.cut.specs.internal.Walk.{Counted}
-use Rattle.cut.proofs.AnyOrder.{maximinShare-perm}
+use Rattle.maximin.specs.Share.{maximinShare, maximinPartition}
+use Rattle.maximin.proofs.AnyOrder.{maximinShare-perm}
 use Rattle.cut.proofs.sorting.Reordered.{reordered-all}
-use Rattle.cut.proofs.walking.Whole.{foundWith, walkable-start, walkedFrom-share}
-use Rattle.cut.proofs.walking.Answered.{answeredShare, answered-share}
+use Rattle.cut.proofs.Whole.{foundWith, searching-share}
+use Rattle.cut.proofs.Answered.{answeredShare, answered-share}
 use Rattle.cut.proofs.cut_by_share.Statement.{statement}
 use Rattle.cut.proofs.cut_by_share.Tie as tie
 
@@ -43,8 +42,7 @@ share-of-requires c κs =
         few-bundles = allowed .few-bundles;
         some-allowance = allowed .some-allowance;
       },
-      subst (λ most. Counted (s .args .bundles) most (s .args .counts .now)) same (s .pre .1),
-      subst (λ k. growths (s .args .bundles) k ≤ s .args .allowance) same (s .pre .2),
+      subst (λ k. growths (s .args .bundles) k ≤ s .args .allowance) same (s .pre .1),
     )
 
 -- what was worked out for them is the share
@@ -53,24 +51,21 @@ is-share c =
     let s = c .before .before .before .before in
     c .share-of .ensures ∙ maximinShare-perm (s .args .bundles) (s .pre .0 .some-bundles) (same-values (c .before .before))
 
-walk-from-requires : tie.Need-walk-from-requires
-walk-from-requires c κs =
-    let s = c .before .before .before .before in
-    let a = s .args in
-    (walkable-start (a .bundles) (a .values .now) (a .allowance) (c .share-of .result) (s .pre .0) (omega (arith, is-share c)), s .pre .1)
+find-requires : tie.Need-find-requires
+find-requires c κs = tt
 
 -- what the walk finds
-walk-finds : (c : tie.After-walk-from) → let a = c .before .before .before .before .before .args in
-    c .walk-from .result ≡ foundWith (a .bundles) (a .values .now) (a .allowance) (maximinShare (a .bundles) (a .values .now)) (maximinPartition (a .bundles) (a .values .now))
+walk-finds : (c : tie.After-find) → let a = c .before .before .before .before .before .args in
+    c .find .result ≡ foundWith (a .bundles) (a .values .now) (a .allowance) (maximinShare (a .bundles) (a .values .now)) (maximinPartition (a .bundles) (a .values .now))
 walk-finds c =
     let s = c .before .before .before .before .before in
     let a = s .args in
     let allowed = s .pre .0 in
-    c .walk-from .ensures
-    ∙ walkedFrom-share (a .bundles) (a .values .now) (a .allowance) (c .before .share-of .result) (allowed .some-bundles) (s .pre .2) (allowed .few) (allowed .some-allowance) (omega (arith, is-share (c .before)))
+    c .find .ensures
+    ∙ searching-share (a .bundles) (a .values .now) (a .allowance) (c .before .share-of .result) (c .before .share-of .result) allowed (omega (arith, is-share (c .before))) (s .pre .1) (omega (arith, is-share (c .before)))
 
-sub-t15 : tie.Need-sub-t15
-sub-t15 c = omega (arith, ap (λ found. found .allowance) (walk-finds (c .before .before .before)))
+sub-t14 : tie.Need-sub-t14
+sub-t14 c = omega (arith, ap (λ found. found .allowance) (walk-finds (c .before .before .before)))
 
 returns : tie.Need-returns
 returns c =
@@ -78,7 +73,7 @@ returns c =
     let s = finding .before .before .before .before .before in
     let a = s .args in
     ap₂ (answeredShare (a .bundles) (a .values .now) (a .allowance)) (is-share (finding .before)) (walk-finds finding)
-    ∙ answered-share (a .bundles) (a .values .now) (a .allowance) (s .pre .2)
+    ∙ answered-share (a .bundles) (a .values .now) (a .allowance) (s .pre .1)
 
 pub cut-by-share-spec : {M : Type 1} → statement M
 cut-by-share-spec =
@@ -88,6 +83,6 @@ cut-by-share-spec =
     array-share-prefix-sorted
     slice-aggregate-in-falling-order
     share-of-requires
-    walk-from-requires
-    sub-t15
+    find-requires
+    sub-t14
     returns)

@@ -4,7 +4,7 @@ use native.Mathlib.Nat.{div-one}
 use lib.ListN.{length}
 use borrow.Author.Needs.{needs}
 use Rattle.lists.specs.Sums.{total}
-use Rattle.cut.specs.Share.{maximinShare, maximinPartition}
+use Rattle.maximin.specs.Share.{maximinShare, maximinPartition}
 use Rattle.cut.specs.Outcome.{placed}
 use Rattle.cut.specs.declared.Answer.the-variants.{Share}
 use Rattle.cut.specs.declared.Outcome.{Outcome}

@@ -17,11 +17,11 @@ use Rattle.lists.proofs.places.Passing.{take-next, within-append}
 use Rattle.lists.proofs.sums.LeastOf.{leastOf-cong}
 use Rattle.lists.proofs.sums.Sums.{total-snoc, total-take, le-sumOf}
 use Rattle.sheet.specs.Limits.{mostAgents}
-use Rattle.cut.specs.Share.{bundleValue, maximinShare}
-use Rattle.cut.specs.internal.Loads.{loadOf}
-use Rattle.cut.proofs.loads.Stored.{loaded-stored}
-use Rattle.cut.proofs.Laws.{leastBundle-le-maximinShare}
-use Rattle.cut.proofs.Partitions.{bundles-le-total}
+use Rattle.maximin.specs.Share.{bundleValue, maximinShare}
+use Rattle.reach.specs.Loads.{loadOf}
+use Rattle.reach.proofs.loads.Stored.{loaded-stored}
+use Rattle.maximin.proofs.Laws.{leastBundle-le-maximinShare}
+use Rattle.maximin.proofs.Partitions.{bundles-le-total}
 
 -- one item more
 bundleValue-snoc : (c v d : ℕ) (vs l : List ℕ) → length l ≡ length vs → bundleValue c (vs ++ (v ∷ [])) (l ++ (d ∷ [])) ≡ bundleValue c vs l + cond (eqb c d) v 0

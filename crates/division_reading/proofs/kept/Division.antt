@@ -14,7 +14,7 @@ use Rattle.lists.proofs.places.Padding.{sets-blank}
 use Rattle.sheet.specs.Limits.{mostAgents, mostItems}
 use Rattle.lexing.specs.Tokens.{Token}
 use Rattle.lexing.specs.Forms.{ended}
-use Rattle.reading.specs.Grammar.{endLine}
+use Rattle.sheet_lines.specs.Grammar.{endLine}
 use Rattle.division_reading.specs.Stated.{StatedLine, Stated}
 use Rattle.division_reading.specs.Grammar.{head, yardLines, divisionText, divisionWithin}
 use Rattle.division_reading.specs.Outcome.{keptLine, blankLine, blankLines, kept}

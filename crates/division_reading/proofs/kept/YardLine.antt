@@ -13,7 +13,7 @@ use Rattle.sheet.specs.Sets.{setOf}
 use Rattle.lexing.specs.Tokens.{Token}
 use Rattle.lexing.specs.Forms.{_>>=_, form, follow}
 use Rattle.lexing.proofs.readers.InTurn.{in-turn-length}
-use Rattle.reading.specs.SheetForms.{lineEnd}
+use Rattle.sheet_lines.specs.SheetForms.{lineEnd}
 use Rattle.division_reading.specs.DivisionForms.{beforeCutPile, pileEnd}
 use Rattle.division_reading.specs.Grammar.{risingItems, bundleAfter, bundleInTurn, amounts, cutBundles, yardLine}
 use Rattle.division_reading.specs.Outcome.{keptLine, cutSets}

@@ -10,7 +10,7 @@ use borrow.Author.Tests.{not-true, not-false}
 use Rattle.sheet.specs.Limits.{mostAgents, mostItems}
 use Rattle.lexing.specs.Places.{tokensAt}
 use Rattle.lexing.specs.Forms.{ended}
-use Rattle.reading.specs.Grammar.{endLine}
+use Rattle.sheet_lines.specs.Grammar.{endLine}
 use Rattle.division_reading.specs.Grammar.{head, yardLines}
 use Rattle.division_reading.specs.Outcome.{kept}
 use Rattle.division_reading.specs.internal.Kept.{isRead, keptLines}

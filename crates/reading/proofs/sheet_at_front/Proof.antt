@@ -1,9 +1,9 @@
 -- `sheet_at_front` meets its contract: refusals 1 to 8 in turn, or the counts and the rows. Assumes nothing.
 use mathlib.Core.Path.{_≡_, refl, sym, ap, _∙_}
 use mathlib.Core.List.{List}
-use mathlib.Core.Option.{some}
-use mathlib.Core.Bool.{true}
-use Prim.Native.Nat.{ℕ}
+use mathlib.Core.Option.{none, some}
+use mathlib.Core.Bool.{true, false}
+use Prim.Native.Nat.{ℕ, _≤_, min}
 use denote.Ref.{now}
 use native.Mathlib.Omega.{arith}
 use lib.Dec.{leb, ltb}
@@ -16,16 +16,18 @@ use Rattle.sheet.proofs.Limits.{within-bounds}
 use Rattle.lexing.specs.Tokens.{tokens}
 use Rattle.lexing.specs.Places.{tokensAt, start}
 use Rattle.lexing.proofs.texts.Places.{tokens-start}
-use Rattle.reading.specs.Grammar.{head, yardLines, endLine}
-use Rattle.reading.specs.Reading.{allowedRow}
-use Rattle.reading.specs.Outcome.{valuation, outcome, ReadsFront}
-use Rattle.reading.specs.internal.Alone.{mayFollow}
-use Rattle.reading.specs.internal.Kept.{rowOf, blankRows}
+use Rattle.lexing.specs.Results.{Follows}
+use Rattle.lexing.specs.declared.forms.Followed.the-variants.{At}
+use Rattle.sheet_lines.specs.Grammar.{head, body, endLine}
+use Rattle.sheet_lines.specs.Alone.{mayFollow}
+use Rattle.sheet_lines.specs.Results.{ReadsBody}
+use Rattle.sheet_lines.proofs.LinesGive.{unread-missed, Read, is-read-gives}
+use Rattle.sheet_lines.proofs.kept.StoredTable.{allowed-kept}
+use Rattle.reading.specs.Reading.{contentsOf}
+use Rattle.reading.specs.Outcome.{outcome, ReadsFront}
 use Rattle.reading.specs.declared.Answer.the-variants.{Accepted}
 use Rattle.reading.specs.declared.Outcome.{Outcome}
 use Rattle.reading.specs.declared.Front.{Front}
-use Rattle.reading.proofs.kept.InTurn.{KeptFrom, kept-from, kept-none}
-use Rattle.reading.proofs.kept.StoredTable.{lines-table}
 use Rattle.reading.proofs.sheet_at_front.Statement.{statement}
 use Rattle.reading.proofs.sheet_at_front.Tie as tie
 
@@ -77,25 +79,39 @@ before-lines c =
     let b = byte-passed h in
     (short b, some-byte b, head-read h, agents-within a, items-within c)
 
-lines-kept : (c : tie.Else5) → let h = counts-read (agents-passed (items-passed c)) in
+-- the lines are read with these counts, which are within the limits
+lesser-first : (a b : ℕ) → a ≤ b → min a b ≡ a
+lesser-first a b few = omega arith
+
+body-told : (c : tie.After-read-body) → let h = counts-read (agents-passed (c .before)) in
     let text = textOf (byte-passed h) in
-    let lines = c .before .before .yard-lines .result in
-    KeptFrom (λ ms. valuation (rowOf ms)) (allowedRow greatestMark) 0 blankRows true
-    (yardLines markDigits (h .agents .given .0 .0) (h .agents .given .0 .1 .0) (tokensAt text (h .agents .given .0 .1 .1 .0)))
-    (lines .rows, lines .allowed, tokensAt text (lines .next))
-lines-kept c =
-    let lines = c .before .before in
-    kept-from _ _ 0 blankRows true _ _ (rw (not-false (lines .yard-lines .result .read) (c .if5 .left)) at (lines .yard-lines .ensures))
+    ReadsBody text (c .read-body .result) (body markDigits (h .agents .given .0 .0) (h .agents .given .0 .1 .0) (tokensAt text (h .agents .given .0 .1 .1 .0)))
+body-told c =
+    let h = counts-read (agents-passed (c .before)) in
+    let few = lesser-first (h .agents .given .0 .0) mostAgents (within-bounds _ _ (agents-within (agents-passed (c .before))) .1) in
+    let few-items = lesser-first (h .agents .given .0 .1 .0) mostItems (within-bounds _ _ (items-within (c .before)) .1) in
+    rw (few, few-items) at (c .read-body .ensures)
 
--- the line `(end)`, where it follows the yard lines
-abbrev lines-passed : tie.Else6 → tie.Else5
-lines-passed c = c .before .before .before
+lines-missed : (c : tie.After-read-body) → c .read-body .result .read ≡ false → let h = counts-read (agents-passed (c .before)) in
+    body markDigits (h .agents .given .0 .0) (h .agents .given .0 .1 .0) (tokensAt (textOf (byte-passed h)) (h .agents .given .0 .1 .1 .0)) ≡ none
+lines-missed c e = unread-missed _ _ _ (body-told c) e
 
-end-read : (c : tie.Else6) → let l = lines-passed c in
+abbrev lines-point : tie.Else5 → tie.After-read-body
+lines-point c = c .before .before
+
+lines-read : (c : tie.Else5) → let h = counts-read (agents-passed (items-passed c)) in
+    let text = textOf (byte-passed h) in
+    Read text (lines-point c .read-body .result) (body markDigits (h .agents .given .0 .0) (h .agents .given .0 .1 .0) (tokensAt text (h .agents .given .0 .1 .1 .0)))
+lines-read c = is-read-gives _ _ _ (body-told (lines-point c)) (not-false (lines-point c .read-body .result .read) (c .if5 .left))
+
+-- the line `(end)`, where it follows the lines
+abbrev lines-passed : tie.After-next → tie.Else5
+lines-passed c = c .before .before .before .before
+
+end-read : (c : tie.After-next) → let l = lines-passed c in
     let b = byte-passed (counts-read (agents-passed (items-passed l))) in
-    let end = c .before .end-line .result in
-    endLine (mayFollow (b .before .before .before .args .alone)) (tokensAt (textOf b) (l .before .before .yard-lines .result .next)) ≡ some (tokensAt (textOf b) (end .next))
-end-read c = rw (not-false (c .before .end-line .result .read) (c .if6 .left)) at (c .before .end-line .ensures .1)
+    Follows (textOf b) (At (c .next .given .0 .0)) (endLine (mayFollow (b .before .before .before .args .alone)) (lines-read l .behind))
+end-read c = rw (lines-read (lines-passed c) .gives .leaves) at (rw (c .next .given .1) at (c .before .before .end-line .ensures))
 
 -- what a refusal gives
 refusal : {s : List ℕ} {r : Front} {number : ℕ} → (r .outcome ≡ outcome (Answers.refused number)) × (r .next ≡ start) → ReadsFront s r (Answers.refused number)
@@ -162,8 +178,8 @@ returns-5 c =
     let outside = sym (c .before .before .is-within2 .ensures) ∙ not-true _ (c .before .if4 .taken) in
     rw (short b, some-byte b, head-read h, agents-within a, outside) (refusal (c .refused5 .ensures))
 
-yard-lines-requires : tie.Need-yard-lines-requires
-yard-lines-requires c κs = (within-bounds _ _ (agents-within (c .before .before)) .1, within-bounds _ _ (items-within c) .1)
+read-body-requires : tie.Need-read-body-requires
+read-body-requires c κs = search needs
 
 refused-requires-6 : tie.Need-refused-requires-6
 refused-requires-6 c κs = search needs
@@ -172,47 +188,59 @@ returns-6 : tie.Need-returns-6
 returns-6 c =
     let lines = c .before .before .before in
     let p = before-lines (lines .before) in
-    let missed = kept-none _ _ 0 blankRows true _ (rw (not-true (lines .yard-lines .result .read) (c .before .if5 .taken)) at (lines .yard-lines .ensures)) in
+    let missed = lines-missed lines (not-true (lines .read-body .result .read) (c .before .if5 .taken)) in
     rw (p .0, p .1, p .2, p .3, p .4, missed) (refusal (c .refused6 .ensures))
 
 end-line-requires : tie.Need-end-line-requires
 end-line-requires c κs = search needs
+
+enum-known-next : tie.Need-enum-known-next
+enum-known-next c = search needs
+
+enum-told-2 : tie.Need-enum-told-2
+enum-told-2 c = search needs
 
 refused-requires-7 : tie.Need-refused-requires-7
 refused-requires-7 c κs = search needs
 
 returns-7 : tie.Need-returns-7
 returns-7 c =
-    let at-end = c .before .before in
+    let at-end = c .before .before .before in
     let l = at-end .before .before in
     let p = before-lines (items-passed l) in
-    let missed = rw (not-true (at-end .end-line .result .read) (c .before .if6 .taken)) at (at-end .end-line .ensures .1) in
-    rw (p .0, p .1, p .2, p .3, p .4, lines-kept l .read, missed) (refusal (c .refused7 .ensures))
+    let r = lines-read l in
+    let missed = rw (r .gives .leaves) at (rw (c .before .enum-told2 .given .1) at (at-end .end-line .ensures)) in
+    rw (p .0, p .1, p .2, p .3, p .4, r .are, missed) (refusal (c .refused7 .ensures))
 
 refused-requires-8 : tie.Need-refused-requires-8
 refused-requires-8 c κs = search needs
 
 returns-8 : tie.Need-returns-8
+unfolding contentsOf
 returns-8 c =
-    let ends = c .before .before in
-    let l = lines-passed ends in
+    let n = c .before .before .before .before in
+    let l = lines-passed n in
     let p = before-lines (items-passed l) in
-    let large = sym (lines-kept l .tested) ∙ not-true (l .before .before .yard-lines .result .allowed) (c .before .if7 .taken) in
-    rw (p .0, p .1, p .2, p .3, p .4, lines-kept l .read, end-read ends, large) (refusal (c .refused8 .ensures))
+    let r = lines-read l in
+    let large = sym (r .gives .tested) ∙ not-true (lines-point l .read-body .result .allowed) (c .before .if6 .taken) in
+    rw (p .0, p .1, p .2, p .3, p .4, r .are, end-read n .1, large) (refusal (c .refused8 .ensures))
 
 returns-9 : tie.Need-returns-9
+unfolding contentsOf
 returns-9 c =
-    let ends = c .before .before .before in
-    let l = lines-passed ends in
+    let n = c .before .before .before .before in
+    let l = lines-passed n in
     let h = counts-read (agents-passed (items-passed l)) in
     let p = before-lines (items-passed l) in
-    let kept = lines-kept l in
-    let small = sym (kept .tested) ∙ not-false (l .before .before .yard-lines .result .allowed) (c .before .before .if7 .left) in
-    let rows-read = kept .filled ∙ lines-table _ _ _ _ _ (within-bounds _ _ (p .3) .1) (within-bounds _ _ (p .4) .1) (kept .read) small in
-    rw (p .0, p .1, p .2, p .3, p .4, kept .read, end-read ends, small)
+    let r = lines-read l in
+    let end = end-read n in
+    let small = sym (r .gives .tested) ∙ not-false (lines-point l .read-body .result .allowed) (c .before .if6 .left) in
+    rw (p .0, p .1, p .2, p .3, p .4, r .are, end .1, small)
     (record {
-      sheet-read = ap {B = Outcome} (λ rows. record { answer = Accepted (record { agents = h .agents .given .0 .0; items = h .agents .given .0 .1 .0 }); rows = rows }) rows-read;
-      left-off = (ends .before .end-line .ensures .0, refl);
+      sheet-read =
+          ap {B = Outcome} (λ rows. record { answer = Accepted (record { agents = h .agents .given .0 .0; items = h .agents .given .0 .1 .0 }); rows = rows })
+          (r .gives .filled ∙ allowed-kept (r .lines .rows) small);
+      left-off = (end .0, refl);
     })
 
 pub sheet-at-front-spec : {M : Type 1} → statement M
@@ -235,10 +263,12 @@ sheet-at-front-spec =
     is-within-requires-2
     refused-requires-5
     returns-5
-    yard-lines-requires
+    read-body-requires
     refused-requires-6
     returns-6
     end-line-requires
+    enum-known-next
+    enum-told-2
     refused-requires-7
     returns-7
     refused-requires-8

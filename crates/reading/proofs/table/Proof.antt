@@ -8,7 +8,8 @@ use lib.ListN.{length, drop, length-set, length-map, drop-of-length-le}
 use lib.Seq.{sets, drop-cons}
 use Rattle.lists.proofs.places.Stores.{sets-all}
 use Rattle.sheet.specs.Limits.{mostAgents}
-use Rattle.reading.specs.Outcome.{valuation, tableIn}
+use Rattle.sheet_lines.specs.Kept.{yard}
+use Rattle.reading.specs.Outcome.{tableIn}
 use Rattle.reading.proofs.table.Statement.{statement}
 use Rattle.reading.proofs.table.Tie as tie
 
@@ -55,7 +56,7 @@ loop-again c =
       omega arith,
       simp length-set (l .loop .inv .1),
       l .loop .inv .2
-          ∙ ap (λ later. sets (l .loop .table) (l .loop .k) (tableIn later)) (drop-cons rows (l .loop .k) (valuation []) (omega (arith, places s)))
+          ∙ ap (λ later. sets (l .loop .table) (l .loop .k) (tableIn later)) (drop-cons rows (l .loop .k) (yard []) (omega (arith, places s)))
           ∙ rw (add-one (l .loop .k)),
     )
 

@@ -5,7 +5,6 @@ use Prim.Native.Nat.{ℕ}
 use lib.ListN.{length}
 use Rattle.sheet.specs.Answers.{Answer, after}
 use Rattle.writing.specs.Filled.{filled}
-use Rattle.reading.specs.Reading.{Contents}
 use Rattle.reading.proofs.Composed.{refused-read, accepted-read}
 use Rattle.writing.specs.Answered.{answered}
 use Rattle.printing.specs.Printing.{printing}
@@ -15,8 +14,8 @@ use Rattle.sheet_to_division.proofs.share_out.Statement.{statement}
 use Rattle.sheet_to_division.proofs.share_out.Tie as tie
 
 -- what follows reading
-abbrev printingOf : ℕ → ℕ → Contents → Answer (List ℕ)
-printingOf allowance room sheet = printing (sheet .agents) (sheet .items) (sheet .table) allowance room
+abbrev printingOf : ℕ → ℕ → ℕ → ℕ → List (List ℕ) → Answer (List ℕ)
+printingOf allowance room agents items table = printing agents items table allowance room
 
 read-requires : tie.Need-read-requires
 read-requires c κs = search needs
@@ -38,7 +37,7 @@ unfolding shareOut
 returns c =
     let at-read = c .before .before .before in
     let a = at-read .before .before .before .args in
-    let told = refused-read (printingOf (a .allowance) (length (a .buffer .now))) (a .text .now) (at-read .read .ensures) (c .before .answer .given .1) in
+    let told = refused-read (λ sheet. printingOf (a .allowance) (length (a .buffer .now)) (sheet .agents) (sheet .items) (sheet .table)) (a .text .now) (at-read .read .ensures) (c .before .answer .given .1) in
     (sym (ap answered told), sym (ap (λ p. after filled p (a .buffer .now)) told))
 
 same-length : tie.Need-same-length
@@ -54,7 +53,7 @@ returns-2 c =
     let a = at-read .before .before .before .args in
     let counts = at-answer .answer2 .given .0 .0 in
     let room = length (a .buffer .now) in
-    let same = accepted-read (printingOf (a .allowance) room) (a .text .now) (at-read .read .ensures) (at-answer .answer2 .given .1) (at-table .table .ensures) in
+    let same = accepted-read (a .text .now) (at-read .read .ensures) (printingOf (a .allowance) room) (at-answer .answer2 .given .1) (at-table .table .ensures) in
     let told : at-print .print-division .result ≡ answered (printing (counts .agents) (counts .items) (at-table .table .result) (a .allowance) room) = at-print .print-division .ensures .0 in
     (told ∙ ap answered same, at-print .print-division .ensures .1 ∙ ap (λ p. after filled p (a .buffer .now)) same)
 

@@ -3,7 +3,7 @@ use mathlib.Core.Path.{sym, _∙_}
 use Rattle.sheet.specs.Answers.{accepted}
 use Rattle.sheet.proofs.Accepted.{andThen-accepted}
 use Rattle.reading.specs.Reading.{reading}
-use Rattle.reading.proofs.Composed.{refused-read, accepted-read}
+use Rattle.reading.proofs.Composed.{refused-read, sheet-read}
 use Rattle.sheet_to_exact.proofs.Showing.{refusal-shown, printed-shown}
 use borrow.Author.Needs.{needs}
 use Rattle.sheet_to_exact.proofs.show_exact.Statement.{statement}
@@ -41,8 +41,8 @@ returns-2 c =
     let at-answer = at-table .before .before .before in
     let at-read = at-answer .before .before in
     let text = at-read .before .before .before .args .text .now in
-    let same = accepted-read accepted text (at-read .read .ensures) (at-answer .answer2 .given .1) (at-table .table .ensures) in
-    printed-shown text _ (sym (same ∙ andThen-accepted (reading text))) (at-print .print-exact .ensures)
+    let told = sheet-read text (at-read .read .ensures) (at-answer .answer2 .given .1) (at-table .table .ensures) in
+    printed-shown text (told .0) (told .1) (told .2) (at-print .print-exact .ensures)
 
 pub show-exact-spec : {M : Type 1} → statement M
 show-exact-spec =

@@ -54,7 +54,7 @@ returns-2 c =
     let a = at-read .before .before .before .args in
     let counts = at-answer .answer2 .given .0 .0 in
     let room = length (a .buffer .now) in
-    let same = accepted-read (writingOf room) (a .text .now) (at-read .read .ensures) (at-answer .answer2 .given .1) (at-table .table .ensures) in
+    let same = accepted-read (a .text .now) (at-read .read .ensures) (λ agents items table. writingOf room (record { agents = agents; items = items; table = table })) (at-answer .answer2 .given .1) (at-table .table .ensures) in
     let told : at-write .write-sheet .result ≡ answered (writingOf room (record { agents = counts .agents; items = counts .items; table = at-table .table .result })) = at-write .write-sheet .ensures .0 in
     (told ∙ ap answered same, at-write .write-sheet .ensures .1 ∙ ap (λ p. after filled p (a .buffer .now)) same)
 

@@ -1,7 +1,10 @@
 -- `sharing::deal` meets its contract. The loop's invariant: the loads are those of a partition of the values passed. Assumes nothing.
+use mathlib.Core.Path.{_≡_, ap}
 use Prim.Native.Nat.{_-_}
 use native.Mathlib.Omega.{arith}
 use lib.ListN.{length}
+use Rattle.lists.specs.Sums.{leastOf}
+use Rattle.reach.specs.Loads.{loadOf, inUse}
 use Rattle.cut.proofs.sharing.Dealt.{Dealt, dealt-start, heavier-le, dealt-next, dealt-end}
 use Rattle.cut.proofs.sharing.deal.Statement.{statement}
 use Rattle.cut.proofs.sharing.deal.Tie as tie
@@ -16,7 +19,7 @@ loop-holds : tie.Need-loop-holds Inv-loop μ-loop
 loop-holds c = let a = c .before .args in dealt-start (a .bundles) (a .values .now)
 
 lightest-requires : tie.Need-lightest-requires Inv-loop μ-loop
-lightest-requires c κs = omega arith
+lightest-requires c κs = tt
 
 mul-loads : tie.Need-mul-loads Inv-loop μ-loop
 mul-loads c = omega arith
@@ -35,7 +38,7 @@ add-loads c =
     let l = c .before .before .before .before .loop in
     let s = c .before .before .before .before .before .before in
     let light = c .before .lightest in
-    omega (arith, heavier-le (s .args .bundles) (s .args .values .now) (l .loads) (l .i) (l .inv) (light .result) (light .ensures) (s .pre .2) (omega arith), s .pre .0)
+    omega (arith, heavier-le (s .args .bundles) (s .args .values .now) (l .loads) (l .i) (l .inv) (light .result) (omega (arith, light .ensures, s .pre .1, s .pre .2)) (s .pre .2) (omega arith), s .pre .0)
 
 mul-loads-3 : tie.Need-mul-loads-3 Inv-loop μ-loop
 mul-loads-3 c = omega arith
@@ -54,16 +57,18 @@ loop-again c =
     let l = c .before .before .before .before .loop in
     let s = c .before .before .before .before .before .before in
     let light = c .before .lightest in
-    dealt-next (s .args .bundles) (s .args .values .now) (l .loads) (l .i) (l .inv) (light .result) (light .ensures) (s .pre .2) (omega arith)
+    dealt-next (s .args .bundles) (s .args .values .now) (l .loads) (l .i) (l .inv) (light .result) (omega (arith, light .ensures, s .pre .1, s .pre .2)) (s .pre .2) (omega arith)
 
 least-requires : tie.Need-least-requires Inv-loop μ-loop
-least-requires c κs = omega arith
+least-requires c κs = tt
 
 returns : tie.Need-returns Inv-loop μ-loop
 returns c =
     let l = c .before .before .before .loop in
-    let a = c .before .before .before .before .before .args in
-    omega (arith, c .least .ensures, dealt-end (a .bundles) (a .values .now) (l .loads) (l .i) (l .inv) (omega arith))
+    let s = c .before .before .before .before .before in
+    let a = s .args in
+    let all : inUse (a .bundles) ≡ a .bundles = omega (arith, s .pre .1, s .pre .2) in
+    omega (arith, c .least .ensures, ap (leastOf (loadOf (l .loads))) all, dealt-end (a .bundles) (a .values .now) (l .loads) (l .i) (l .inv) (omega arith))
 
 pub deal-spec : {M : Type 1} → statement M
 deal-spec =

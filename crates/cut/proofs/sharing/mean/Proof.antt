@@ -1,9 +1,11 @@
 -- `sharing::mean` meets its contract: no value is above the threshold. Assumes nothing.
-use mathlib.Core.Path.{ap, _∙_}
+use mathlib.Core.Path.{_≡_, ap}
 use Prim.Native.Nat.{_/_}
+use native.Mathlib.Omega.{arith}
 use borrow.Author.Needs.{needs}
+use Rattle.lists.specs.Sums.{total}
 use Rattle.sheet.specs.Limits.{greatestSum}
-use Rattle.cut.proofs.pruning.Threshold.{supply-all}
+use Rattle.reach.proofs.pruning.Threshold.{supply-all}
 use Rattle.cut.proofs.sharing.mean.Statement.{statement}
 use Rattle.cut.proofs.sharing.mean.Tie as tie
 
@@ -17,7 +19,8 @@ returns : tie.Need-returns
 returns c =
     let s = c .before .before in
     let a = s .args in
-    ap (λ sum. sum / a .bundles) (c .supplied .ensures ∙ supply-all greatestSum (a .values .now) (s .pre .0))
+    let all : c .supplied .result ≡ total (a .values .now) = omega (arith, c .supplied .ensures, supply-all greatestSum (a .values .now) (s .pre .0), s .pre .0) in
+    ap (λ sum. sum / a .bundles) all
 
 pub mean-spec : {M : Type 1} → statement M
 mean-spec = tie.close (tie.spec supplied-requires div-result returns)

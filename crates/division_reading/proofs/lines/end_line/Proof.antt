@@ -3,7 +3,7 @@ use mathlib.Core.Path.{_≡_, refl}
 use mathlib.Core.Bool.{Bool, true, false, cond}
 use mathlib.Core.Option.{none, some}
 use Rattle.lexing.specs.Forms.{ended}
-use Rattle.reading.specs.Grammar.{endLine}
+use Rattle.sheet_lines.specs.Grammar.{endLine}
 use Rattle.division_reading.specs.internal.Kept.{isRead}
 use borrow.Author.Needs.{needs}
 use Rattle.division_reading.proofs.lines.end_line.Statement.{statement}

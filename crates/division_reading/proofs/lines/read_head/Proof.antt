@@ -9,7 +9,7 @@ use Rattle.sheet.specs.Limits.{countDigits}
 use Rattle.lexing.specs.Forms.{form}
 use Rattle.lexing.specs.Numbers.{numberAfter, followNumber}
 use Rattle.lexing.specs.Places.{tokensAt}
-use Rattle.reading.specs.SheetForms.{beforeItems}
+use Rattle.sheet_lines.specs.SheetForms.{beforeItems}
 use Rattle.division_reading.specs.DivisionForms.{beforeCounts, beforeGrade}
 use Rattle.division_reading.specs.Grammar.{gradeDigits, head}
 use Rattle.division_reading.proofs.lines.read_head.Statement.{statement}

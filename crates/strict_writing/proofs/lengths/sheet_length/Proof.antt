@@ -1,7 +1,7 @@
 -- `lengths::sheet_length` meets its contract. Assumes nothing.
 use native.Mathlib.Omega.{arith}
 use lib.ListN.{length-append}
-use Rattle.strict_text.specs.StrictText.{sheetText, strictText}
+use Rattle.strict_text.specs.StrictText.{bodyText, sheetText, strictText}
 use borrow.Author.Needs.{needs}
 use Rattle.strict_writing.proofs.lengths.sheet_length.Statement.{statement}
 use Rattle.strict_writing.proofs.lengths.sheet_length.Tie as tie
@@ -19,7 +19,7 @@ add-result-2 : tie.Need-add-result-2
 add-result-2 c = search needs
 
 returns : tie.Need-returns
-unfolding sheetText strictText
+unfolding bodyText sheetText strictText
 returns c = simp length-append (omega arith)
 
 pub sheet-length-spec : {M : Type 1} → statement M

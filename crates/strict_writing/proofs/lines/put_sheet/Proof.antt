@@ -1,6 +1,6 @@
 -- `lines::put_sheet` meets its contract. Assumes nothing.
 use Rattle.writing.proofs.Written.{_then_}
-use Rattle.strict_text.specs.StrictText.{sheetText, strictText}
+use Rattle.strict_text.specs.StrictText.{bodyText, sheetText, strictText}
 use borrow.Author.Needs.{needs}
 use Rattle.strict_writing.proofs.lines.put_sheet.Statement.{statement}
 use Rattle.strict_writing.proofs.lines.put_sheet.Tie as tie
@@ -21,7 +21,7 @@ same-length : tie.Need-same-length
 same-length c = search needs
 
 returns : tie.Need-returns
-unfolding sheetText strictText
+unfolding bodyText sheetText strictText
 returns c =
     let at-end = c .before .before in
     let at-lines = at-end .before .before .before .before .before in

@@ -1,0 +1,1 @@
+// The maximin share and the partition (cut) that shows it: definitions and laws, no code.

@@ -1,0 +1,1 @@
+-- Laws of loads and of the tests that leave a branch of a walk stand beside the functions, in `loads` and `pruning`.

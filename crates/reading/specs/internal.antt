@@ -1,4 +1,0 @@
--- What the contracts of the private functions cite. No contract of a public function cites these.
-pub mod Alone
-pub mod Kept
-pub mod Results

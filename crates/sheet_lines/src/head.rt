@@ -1,0 +1,35 @@
+// The first line of a sheet.
+ghost use Rattle.lexing.specs.Places.{tokensAt};
+ghost use Rattle.sheet_lines.specs.Grammar.{head};
+ghost use Rattle.sheet_lines.specs.Results.{ReadsHead};
+use crate::forms::BEFORE_AGENTS;
+use crate::forms::BEFORE_ITEMS;
+use crate::forms::LINE_END;
+use lexing::forms::Followed;
+use lexing::forms::Number;
+use lexing::forms::follow;
+use lexing::forms::number_after;
+use lexing::tokens::Cursor;
+use sheet::Sheet;
+
+// The counts of yards and pieces, and the place after the first line.
+pub enum Head {
+    Counts(usize, usize, Cursor),
+    Missed,
+}
+
+// (sheet (yards 2) (pieces 3))
+pub fn read_head(s: &[u8], c: Cursor) -> Head
+    ensures { λ r. ⌜ ReadsHead (now (s .entry)) r (head (tokensAt (now (s .entry)) c)) ⌝ }
+{
+    let Number::Value(agents, c1) = number_after(s, c, &BEFORE_AGENTS, Sheet::COUNT_DIGITS) else {
+        return Head::Missed;
+    };
+    let Number::Value(items, c2) = number_after(s, c1, &BEFORE_ITEMS, Sheet::COUNT_DIGITS) else {
+        return Head::Missed;
+    };
+    let Followed::At(c3) = follow(s, c2, &LINE_END) else {
+        return Head::Missed;
+    };
+    Head::Counts(agents as usize, items as usize, c3)
+}

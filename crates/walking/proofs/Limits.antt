@@ -1,0 +1,67 @@
+-- The limits of a search. Assumes nothing.
+use mathlib.Core.Path.{_≡_, refl, sym, ap, _∙_}
+use mathlib.Core.Bool.{true, and-eq-true-iff}
+use mathlib.Core.Logic.{⊎-elim}
+use mathlib.Core.List.{List}
+use Prim.Native.Nat.{ℕ, _+_, _≤_, _<_}
+use native.Mathlib.Omega.{arith}
+use lib.Dec.{leb}
+use lib.ListN.{length}
+use borrow.Author.Tests.{le-leb, lt-leb, leb-true}
+use Rattle.lists.specs.Lists.{zeros}
+use Rattle.lists.specs.Sums.{total}
+use Rattle.lists.proofs.Cases.{lt-or-ge}
+use Rattle.lists.proofs.places.Zeros.{getD-zeros}
+use Rattle.sheet.specs.Limits.{mostAgents, mostItems, greatestSum, within}
+use Rattle.sheet.proofs.Limits.{within-bounds}
+use Rattle.reach.specs.Pruning.{supply, countedSupply}
+use Rattle.reach.proofs.pruning.Threshold.{supply-all, supply-below}
+use Rattle.walking.specs.Walk.{Walkable, searchable}
+
+-- the sum of the values as it is counted tells whether it is within the limits
+pub supplied-within : (values : List ℕ) → leb (countedSupply (greatestSum + 1) values) greatestSum ≡ leb (total values) greatestSum
+supplied-within values =
+    ⊎-elim
+    (λ (above : greatestSum < total values).
+    let counted : greatestSum < countedSupply (greatestSum + 1) values =
+    ⊎-elim (λ low. absurd (omega (arith, supply-below (greatestSum + 1) values low))) (λ high. omega arith) (lt-or-ge (supply (greatestSum + 1) values) (greatestSum + 1)) in
+    lt-leb (countedSupply (greatestSum + 1) values) greatestSum counted ∙ sym (lt-leb (total values) greatestSum above))
+    (λ small. let same : countedSupply (greatestSum + 1) values ≡ total values = omega (arith, supply-all (greatestSum + 1) values (omega arith)) in
+    ap (λ sum. leb sum greatestSum) same)
+    (lt-or-ge greatestSum (total values))
+
+-- what the limits of a search are
+pub record Within (values : List ℕ) (bundles : ℕ) : Type 0 where
+  pub some-bundles : 1 ≤ bundles
+  pub few-bundles : bundles ≤ mostAgents
+  pub few : length values ≤ mostItems
+  pub small : total values ≤ greatestSum
+
+module _ (values : List ℕ) (bundles : ℕ) where
+  pub searchable-within : searchable values bundles ≡ true → Within values bundles
+  searchable-within e =
+      let (inside, limits) = and-eq-true-iff (within mostAgents bundles) _ .0 e in
+      let (few, small) = and-eq-true-iff (leb (length values) mostItems) (leb (total values) greatestSum) .0 limits in
+      let bounds = within-bounds mostAgents bundles inside in
+      record {
+        some-bundles = bounds .0;
+        few-bundles = bounds .1;
+        few = leb-true (length values) mostItems few;
+        small = leb-true (total values) greatestSum small;
+      }
+
+  pub within-searchable : Within values bundles → searchable values bundles ≡ true
+  within-searchable w =
+      rw (le-leb 1 bundles (w .some-bundles), le-leb bundles mostAgents (w .few-bundles), le-leb (length values) mostItems (w .few), le-leb (total values) greatestSum (w .small)) refl
+
+  -- a walk may start from empty bundles
+  pub walkable-start : Within values bundles → Walkable values bundles 0 0 (zeros mostAgents)
+  walkable-start w =
+      record {
+        few = omega (arith, w .few);
+        some-bundles = w .some-bundles;
+        few-bundles = w .few-bundles;
+        opened = omega arith;
+        places = refl;
+        sums-bounded = λ i. omega (arith, getD-zeros mostAgents i, w .small);
+      }

@@ -1,0 +1,252 @@
+// The walk over the growth partitions, depth first and in dictionary order, that keeps the first best as far as its allowance goes.
+ghost use mathlib.Core.Path.{_≡_};
+ghost use mathlib.Core.Bool.{true};
+ghost use Prim.Native.Nat.{_+_, _≤_, _<_, min, max};
+ghost use Rattle.sheet.specs.Limits.{mostAgents, mostItems, greatestSum};
+ghost use lib.ListN.{length};
+ghost use Rattle.lists.specs.Lists.{zeros};
+ghost use Rattle.reach.specs.Pruning.{GreatestFrom};
+ghost use Rattle.walking.specs.Scan.{looked, passing};
+ghost use Rattle.walking.specs.Walk.{Walkable, countAt, Counted, start, walked, walkedFrom, searchable, searching};
+use growth::Counts;
+use growth::counts_for;
+use reach::loads::Loads;
+use reach::loads::least;
+use reach::pruning::is_out_of_reach;
+use reach::pruning::lesser;
+use reach::pruning::supplied;
+use sheet::Sheet;
+use sheet::is_within;
+
+// The bundle of each item of the set in rising order, 0 after the last.
+pub type Partition = [u8; Sheet::ITEMS];
+
+// A number for each item.
+type Values = [u64; Sheet::ITEMS];
+
+// The first best partition so far, and the least bundle that a partition has to reach to take its place.
+pub struct Best {
+    pub goal: u64,
+    pub partition: Partition,
+}
+
+// A search that is under way: the best so far, and how many growth partitions it may still look at.
+pub struct Search {
+    pub best: Best,
+    pub allowance: u32,
+}
+
+// The number of bundles that the next item may go to: those in use and the next new one.
+fn open_bundles(used: usize, bundles: usize) -> usize
+    requires { ⌜ used ≤ bundles ⌝ }
+    ensures { λ r. ⌜ r ≡ min (used + 1) bundles ⌝ }
+{
+    if used < bundles { used + 1 } else { bundles }
+}
+
+// The greater of two numbers.
+fn greater(a: usize, b: usize) -> usize
+    ensures { λ r. ⌜ r ≡ max a b ⌝ }
+{
+    if a < b { b } else { a }
+}
+
+// In each place the greatest of the values from there on, and at least 1.
+fn greatest_from_each(values: &[u64]) -> Values
+    requires { ⌜ length (now values) ≤ mostItems ⌝ }
+    ensures { λ r. ⌜ GreatestFrom 0 (now (values .entry)) r ⌝ }
+{
+    let mut greatest = [1u64; Sheet::ITEMS];
+    let mut most: u64 = 1;
+    let mut i = values.len();
+    while 0 < i {
+        i -= 1;
+        if most < values[i] {
+            most = values[i];
+        }
+        greatest[i] = most;
+    }
+    greatest
+}
+
+// The search once it looked at the partition, whose least bundle is `least`: that is the best where it reaches the goal, counted up to
+// the ceiling.
+fn look(search: Search, least: u64, ceiling: u64, partition: Partition) -> Search
+    requires { ⌜ (1 ≤ search .allowance) × (least ≤ greatestSum) ⌝ }
+    ensures { λ r. ⌜ r ≡ looked (min least ceiling) partition search ⌝ }
+{
+    let low = lesser(least, ceiling);
+    let best = search.best;
+    let allowance = search.allowance - 1;
+    if low < best.goal {
+        return Search { best, allowance };
+    }
+    let better = Best {
+        goal: low + 1,
+        partition,
+    };
+    Search {
+        best: better,
+        allowance,
+    }
+}
+
+// The search once the growth partitions of `left` more items, where `used` bundles are in use, are passed over: none reaches the goal.
+// An allowance that ends among them ends there.
+fn pass(counts: &Counts, left: usize, used: usize, search: Search) -> Search
+    requires { ⌜ (left ≤ mostItems) × (used ≤ mostAgents) ⌝ }
+    ensures { λ r. ⌜ r ≡ passing (countAt (now (counts .entry)) left used) search ⌝ }
+{
+    let best = search.best;
+    let allowance = search.allowance;
+    let count = counts[left][used];
+    if allowance < count {
+        return Search { best, allowance: 0 };
+    }
+    Search {
+        best,
+        allowance: allowance - count,
+    }
+}
+
+// Whether an item is wasted on a bundle that is in use, not the first, and has the goal already: on the first bundle it serves as well, and
+// that is tried before.
+fn is_wasted(search: Search, load: u64, bundle: usize, used: usize) -> bool
+    ensures { λ r. ⌜ (r ≡ true → (1 ≤ bundle) × (bundle < used) × (search .best .goal ≤ load)) ⌝ }
+{
+    let best = search.best;
+    if bundle < 1 {
+        return false;
+    }
+    if used <= bundle {
+        return false;
+    }
+    best.goal <= load
+}
+
+// The search once it went through the growth partitions that go on from the first `at` places of `partition`; the values are still to be
+// laid, `greatest` has the greatest of them from each on, and a least bundle counts up to the ceiling. A branch in which none reaches the goal is left, and the allowance falls by the number of
+// its growth partitions at once.
+fn walk(
+    values: &[u64],
+    counts: &Counts,
+    bundles: usize,
+    at: usize,
+    used: usize,
+    loads: &Loads,
+    partition: &Partition,
+    greatest: &Values,
+    ceiling: u64,
+    search: Search,
+) -> Search
+    requires { ⌜ Walkable (now values) bundles at used (now loads) × Counted bundles (length (now values)) (now counts) × GreatestFrom at (now values) (now greatest) ⌝ }
+    ensures { λ r. ⌜ r ≡ walked (now (values .entry)) bundles at used (now (loads .entry)) (now (partition .entry)) ceiling search ⌝ }
+{
+    if search.allowance == 0 {
+        return search;
+    }
+    if values.len() == 0 {
+        return look(search, least(loads, bundles), ceiling, *partition);
+    }
+    let best = search.best;
+    if is_out_of_reach(values, loads, bundles, greatest[at], ceiling, best.goal) {
+        return pass(counts, values.len(), used, search);
+    }
+    let value = values[0];
+    let rest = &values[1..];
+    let limit = open_bundles(used, bundles);
+    let mut loaded = *loads;
+    let mut longer = *partition;
+    let mut found = search;
+    let mut bundle: usize = 0;
+    while bundle < limit {
+        let opened = greater(used, bundle + 1);
+        let load = loaded[bundle];
+        if is_wasted(found, load, bundle, used) {
+            found = pass(counts, rest.len(), opened, found);
+        } else {
+            loaded[bundle] = load + value;
+            longer[at] = bundle as u8 + 1;
+            found = walk(
+                rest,
+                counts,
+                bundles,
+                at + 1,
+                opened,
+                &loaded,
+                &longer,
+                greatest,
+                ceiling,
+                found,
+            );
+            loaded[bundle] = load;
+        }
+        bundle += 1;
+    }
+    found
+}
+
+// A search that has found nothing yet.
+fn nothing(goal: u64, allowance: u32) -> Search
+    ensures { λ r. ⌜ r ≡ start goal allowance ⌝ }
+{
+    let partition = [0u8; Sheet::ITEMS];
+    let best = Best { goal, partition };
+    Search { best, allowance }
+}
+
+// The search from empty bundles, for a partition whose least bundle reaches the goal.
+fn walk_from(
+    values: &[u64],
+    counts: &Counts,
+    bundles: usize,
+    ceiling: u64,
+    goal: u64,
+    allowance: u32,
+) -> Search
+    requires { ⌜ Walkable (now values) bundles 0 0 (zeros mostAgents) × Counted bundles (length (now values)) (now counts) ⌝ }
+    ensures { λ r. ⌜ r ≡ walkedFrom (now (values .entry)) bundles ceiling goal allowance ⌝ }
+{
+    let partition = [0u8; Sheet::ITEMS];
+    let loads = [0u64; Sheet::AGENTS];
+    let greatest = greatest_from_each(values);
+    let best = Best { goal, partition };
+    let search = Search { best, allowance };
+    walk(
+        values,
+        counts,
+        bundles,
+        0,
+        0,
+        &loads,
+        &partition,
+        &greatest,
+        ceiling,
+        search,
+    )
+}
+
+// Whether values and a number of bundles lie within the limits of a cut.
+fn is_searchable(values: &[u64], bundles: usize) -> bool
+    ensures { λ r. ⌜ r ≡ searchable (now (values .entry)) bundles ⌝ }
+{
+    if !is_within(bundles, Sheet::AGENTS) {
+        return false;
+    }
+    if Sheet::ITEMS < values.len() {
+        return false;
+    }
+    supplied(values, Sheet::GREATEST_SUM + 1) <= Sheet::GREATEST_SUM
+}
+
+// The search for a partition of the values whose least bundle, counted up to the ceiling, reaches the goal: the first best of the growth
+// partitions, as far as the allowance goes. Nothing is found where the values or the bundles lie outside the limits of a cut.
+pub fn find(values: &[u64], bundles: usize, ceiling: u64, goal: u64, allowance: u32) -> Search
+    ensures { λ r. ⌜ r ≡ searching (now (values .entry)) bundles ceiling goal allowance ⌝ }
+{
+    if !is_searchable(values, bundles) {
+        return nothing(goal, allowance);
+    }
+    let counts = counts_for(values.len(), bundles);
+    walk_from(values, &counts, bundles, ceiling, goal, allowance)
+}
