@@ -1,0 +1,2 @@
+-- Laws of what a program writes for an answer.
+pub mod Replied

@@ -1,0 +1,53 @@
+-- What a program writes for an answer is the text, or the line of the refusal; how long that line is. Assumes nothing.
+use mathlib.Core.Path.{_≡_, refl, sym, ap, subst, _∙_}
+use mathlib.Core.Bool.{Bool, true, false}
+use mathlib.Core.List.{List, [], _∷_, foldl}
+use Prim.Native.Nat.{ℕ, _≤_, _<_}
+use native.Mathlib.Omega.{arith}
+use lib.Dec.{ltb}
+use lib.ListN.{length, take, drop, length-append, length-set}
+use lib.Seq.{take-at}
+use borrow.Author.Tests.{ltb-true}
+use Rattle.text.proofs.Decimal.{decimal-length}
+use Rattle.sheet.specs.Answers.{Answer, refused, accepted, after}
+use Rattle.sheet.proofs.Refusals.{RefusedBelow}
+use Rattle.writing.specs.Answered.{answered}
+use Rattle.writing.specs.Filled.{filled}
+use Rattle.writing.specs.Output.{Output, output, withByte, Written}
+use Rattle.writing.proofs.Filled.{written-whole, filled-front}
+use Rattle.reply.specs.Replies.{refusalLine, longestRefusal, replied, replyInto}
+
+-- a text that is written from the front of a buffer ends within it
+next-withByte : (p : Output) (byte : ℕ) → p .next ≤ length (p .bytes) → withByte p byte .next ≤ length (withByte p byte .bytes)
+next-withByte p byte inside = step (ltb (p .next) (length (p .bytes))) refl
+  where
+    step : (b : Bool) → ltb (p .next) (length (p .bytes)) ≡ b → withByte p byte .next ≤ length (withByte p byte .bytes)
+    step true e = rw e (omega (arith, ltb-true (p .next) (length (p .bytes)) e, length-set (p .bytes) (p .next) byte))
+    step false e = rw e inside
+
+next-foldl-withByte : (p : Output) (text : List ℕ) → p .next ≤ length (p .bytes) → foldl withByte p text .next ≤ length (foldl withByte p text .bytes)
+next-foldl-withByte p [] inside = inside
+next-foldl-withByte p (byte ∷ text) inside = next-foldl-withByte (withByte p byte) text (next-withByte p byte inside)
+
+pub next-within : {old text new : List ℕ} {next : ℕ} → Written (output old 0) text (output new next) → next ≤ length new
+next-within {old} {text} {new} {next} w =
+    subst (λ p. p .next ≤ length (p .bytes)) (sym (w .bytewise)) (next-foldl-withByte (output old 0) text (omega arith))
+
+-- the line of a number of one byte
+pub length-refusalLine : (number : ℕ) → number < 256 → length (refusalLine number) ≤ longestRefusal
+length-refusalLine number small = simp length-append (omega (arith, decimal-length number 3 (omega arith) (omega arith)))
+
+-- a text stands at the front already
+text-front : (text old : List ℕ) {lent new : List ℕ} {r : ℕ} → lent ≡ filled text old → output new r ≡ replyInto (answered (accepted text)) lent → take r new ≡ text
+text-front text old {lent} {new} {r} holds e =
+    let reached : length text ≡ r = omega (arith, ap (λ p. p .next) e, ap length holds, filled-front text old .0) in
+    rw (ap (λ p. p .bytes) e ∙ holds) (take-at text (drop (length text) old) r reached)
+
+-- "prints the division, or one line such as `(refused 4)`": where refusals are numbers of one byte and the buffer has room for their
+-- lines, the front is what an answer is to be replied
+pub replied-front : (a : Answer (List ℕ)) (old : List ℕ) {lent new : List ℕ} {r : ℕ} → RefusedBelow 256 a → longestRefusal ≤ length old
+    → lent ≡ after filled a old → output new r ≡ replyInto (answered a) lent → take r new ≡ replied a
+replied-front (refused number) old {lent} {new} {r} below room kept e =
+    let whole : length (refusalLine number) ≤ length lent = omega (arith, ap length kept, length-refusalLine number (below .below number refl)) in
+    written-whole {old = lent} (record { bytewise = e }) whole .front
+replied-front (accepted text) old below room kept e = text-front text old kept e

@@ -1,0 +1,2 @@
+-- What a program writes for an answer.
+pub mod Replies
