@@ -2,7 +2,6 @@
 use libc::STDIN_FILENO;
 use libc::STDOUT_FILENO;
 use sheet::Sheet;
-use writing::Answer;
 
 // One byte more than the longest text, so that a longer one is seen to be longer.
 const ROOM: usize = Sheet::LONGEST_TEXT + 1;
@@ -12,17 +11,6 @@ fn main() {
     let got = io::read_full(STDIN_FILENO, &mut text);
     let mut buffer = [0u8; exact_printing::LONGEST];
     let answer = sheet_to_exact::show_exact(&text[..got], &mut buffer);
-    match answer {
-        Answer::Refused(number) => refuse(number),
-        Answer::Written(length) => {
-            io::write_all(STDOUT_FILENO, &buffer[..length]);
-        }
-    }
-}
-
-// The line of a refusal.
-fn refuse(number: u8) {
-    io::write_all(STDOUT_FILENO, b"(refused ");
-    io::print_decimal(STDOUT_FILENO, number as u64);
-    io::write_all(STDOUT_FILENO, b")\n");
+    let length = reply::reply(answer, &mut buffer);
+    io::write_all(STDOUT_FILENO, &buffer[..length]);
 }

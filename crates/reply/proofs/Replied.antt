@@ -5,7 +5,7 @@ use mathlib.Core.List.{List, [], _∷_, foldl}
 use Prim.Native.Nat.{ℕ, _≤_, _<_}
 use native.Mathlib.Omega.{arith}
 use lib.Dec.{ltb}
-use lib.ListN.{length, take, drop, length-append, length-set}
+use lib.ListN.{length, take, drop, length-append, length-set, length-take}
 use lib.Seq.{take-at}
 use borrow.Author.Tests.{ltb-true}
 use Rattle.text.proofs.Decimal.{decimal-length}
@@ -15,7 +15,7 @@ use Rattle.writing.specs.Answered.{answered}
 use Rattle.writing.specs.Filled.{filled}
 use Rattle.writing.specs.Output.{Output, output, withByte, Written}
 use Rattle.writing.proofs.Filled.{written-whole, filled-front}
-use Rattle.reply.specs.Replies.{refusalLine, longestRefusal, replied, replyInto}
+use Rattle.reply.specs.Replies.{refusalLine, longestRefusal, replied, replyInto, Front}
 
 -- a text that is written from the front of a buffer ends within it
 next-withByte : (p : Output) (byte : ℕ) → p .next ≤ length (p .bytes) → withByte p byte .next ≤ length (withByte p byte .bytes)
@@ -29,9 +29,16 @@ next-foldl-withByte : (p : Output) (text : List ℕ) → p .next ≤ length (p .
 next-foldl-withByte p [] inside = inside
 next-foldl-withByte p (byte ∷ text) inside = next-foldl-withByte (withByte p byte) text (next-withByte p byte inside)
 
-pub next-within : {old text new : List ℕ} {next : ℕ} → Written (output old 0) text (output new next) → next ≤ length new
-next-within {old} {text} {new} {next} w =
+written-within : {old text new : List ℕ} {next : ℕ} → Written (output old 0) text (output new next) → next ≤ length new
+written-within {old} {text} {new} {next} w =
     subst (λ p. p .next ≤ length (p .bytes)) (sym (w .bytewise)) (next-foldl-withByte (output old 0) text (omega arith))
+
+-- what is within a buffer is a front of it
+pub within-front : (n : ℕ) (bytes : List ℕ) → n ≤ length bytes → Front n bytes
+within-front n bytes inside = (inside, omega (arith, length-take n bytes))
+
+pub written-front : {old text new : List ℕ} {next : ℕ} → Written (output old 0) text (output new next) → Front next new
+written-front {old} {text} {new} {next} w = within-front next new (written-within w)
 
 -- the line of a number of one byte
 pub length-refusalLine : (number : ℕ) → number < 256 → length (refusalLine number) ≤ longestRefusal

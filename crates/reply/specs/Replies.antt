@@ -1,7 +1,8 @@
 -- What a program writes (document 01, "Parts of the box"): a text, or the line of a refusal. Assumes nothing: these are definitions.
+use mathlib.Core.Path.{_≡_}
 use mathlib.Core.List.{List, _++_, foldl}
-use Prim.Native.Nat.{ℕ, min}
-use lib.ListN.{length}
+use Prim.Native.Nat.{ℕ, min, _≤_}
+use lib.ListN.{length, take}
 use Rattle.text.specs.Bytes.{bytes}
 use Rattle.text.specs.Decimal.{decimal}
 use Rattle.sheet.specs.Answers.{Answer, refused, accepted}
@@ -26,3 +27,7 @@ replied (accepted text) = text
 abbrev pub replyInto : declared.Answer → List ℕ → Output
 replyInto (declared.the-variants.Refused number) buffer = foldl withByte (output buffer 0) (refusalLine number)
 replyInto (declared.the-variants.Written written) buffer = output buffer (min written (length buffer))
+
+-- the first n bytes of a buffer are a front of it: there are so many, in the two ways in which one who lends them on is asked
+abbrev pub Front : ℕ → List ℕ → Type 0
+Front n bytes = (n ≤ length bytes) × (n ≡ length (take n bytes))

@@ -1,9 +1,7 @@
 // What becomes of an answer: the text that a program writes.
 ghost use mathlib.Core.Path.{_≡_};
-ghost use Prim.Native.Nat.{_≤_};
-ghost use lib.ListN.{length};
 ghost use Rattle.writing.specs.Output.{output, Written};
-ghost use Rattle.reply.specs.Replies.{refusalLine, replyInto};
+ghost use Rattle.reply.specs.Replies.{refusalLine, replyInto, Front};
 use sheet::lesser;
 use writing::Answer;
 
@@ -19,7 +17,7 @@ fn put_refusal(buffer: &mut [u8], number: u8) -> usize
 // of a text as it is, and returns the length of the front to write.
 pub fn reply(answer: Answer, buffer: &mut [u8]) -> usize
     ensures front { λ r. ⌜ output (now (buffer .exit)) r ≡ replyInto answer (now (buffer .entry)) ⌝ }
-    ensures within { λ r. ⌜ r ≤ length (now (buffer .exit)) ⌝ }
+    ensures within { λ r. ⌜ Front r (now (buffer .exit)) ⌝ }
 {
     match answer {
         Answer::Refused(number) => put_refusal(buffer, number),

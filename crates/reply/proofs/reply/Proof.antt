@@ -2,7 +2,7 @@
 use mathlib.Core.Path.{ap}
 use native.Mathlib.Omega.{arith}
 use Rattle.writing.specs.Output.{output}
-use Rattle.reply.proofs.Replied.{next-within}
+use Rattle.reply.proofs.Replied.{within-front, written-front}
 use borrow.Author.Needs.{needs}
 use Rattle.reply.proofs.reply.Statement.{statement}
 use Rattle.reply.proofs.reply.Tie as tie
@@ -27,13 +27,13 @@ returns c =
     let at-line = c .before .before in
     let at-answer = at-line .before .before .before in
     let line = at-line .put-refusal .ensures in
-    (rw (at-answer .answer .given .1) (line .bytewise), next-within line)
+    (rw (at-answer .answer .given .1) (line .bytewise), written-front line)
 
 returns-2 : tie.Need-returns-2
 returns-2 c =
     let at-answer = c .before .before in
     let a = at-answer .before .before .before .args in
-    (rw (at-answer .answer2 .given .1) (ap (output (a .buffer .now)) (c .lesser .ensures)), omega (arith, c .lesser .ensures))
+    (rw (at-answer .answer2 .given .1) (ap (output (a .buffer .now)) (c .lesser .ensures)), within-front (c .lesser .result) (a .buffer .now) (omega (arith, c .lesser .ensures)))
 
 pub reply-spec : {M : Type 1} → statement M
 reply-spec =

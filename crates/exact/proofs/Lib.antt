@@ -1,0 +1,2 @@
+-- What the program's buffer has room for.
+mod Room
