@@ -5,9 +5,9 @@ ghost use Rattle.lexing.specs.Places.{tokensAt};
 ghost use Rattle.division_reading.specs.Grammar.{divisionWithin};
 ghost use Rattle.division_reading.specs.Outcome.{blankLine, blankLines, kept};
 use lexing::forms::Number;
-use lexing::tokens::Cursor;
 use sheet::Sets;
 use sheet::Sheet;
+use tokeniser::Cursor;
 
 pub mod forms;
 mod lines;

@@ -29,14 +29,14 @@ use lexing::forms::follow;
 use lexing::forms::follow_number;
 use lexing::forms::number_after;
 use lexing::forms::read_number;
-use lexing::tokens::Cursor;
-use lexing::tokens::ended;
 use sheet::Sets;
 use sheet::Sheet;
 use sheet_lines::forms::BEFORE_ITEMS;
 use sheet_lines::forms::BEFORE_TURN;
 use sheet_lines::forms::LAST_LINE;
 use sheet_lines::forms::LINE_END;
+use tokeniser::Cursor;
+use tokeniser::ended;
 
 // The digits of a grade.
 const GRADE_DIGITS: usize = 1;

@@ -1,8 +1,8 @@
 -- What readers of forms and numbers read.
+pub use Rattle.numerals.proofs.DecimalDigits as Decimal
 pub mod Same
 pub mod Numbers
 pub mod Tested
-pub mod Decimal
 pub mod Follow
 pub mod InTurn
 pub mod AlsoReads

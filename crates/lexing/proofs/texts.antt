@@ -1,13 +1,7 @@
--- The tokens of a text, by its first byte and at its places.
-pub mod Kinds
-pub mod Bytewise
-pub mod Places
-pub mod Passing
-pub mod Lexing
-pub mod NextToken
-pub mod HaveBytes
-pub mod Parts
-pub mod BehindLine
+-- The tokens of a text: of numbers in it, and what the crates below prove of them.
+pub use Rattle.tokens.proofs.texts.HaveBytes
+pub use Rattle.tokens.proofs.texts.Parts
+pub use Rattle.tokens.proofs.texts.BehindLine
+pub use Rattle.tokens.proofs.texts.Respaced
+pub use Rattle.tokeniser.proofs.Places
 pub mod Numbers
-pub mod Alike
-pub mod Respaced

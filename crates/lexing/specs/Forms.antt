@@ -7,27 +7,14 @@ use mathlib.Core.Option.{Option, none, some}
 use mathlib.Core.Bool.{Bool, true, false, cond, _&&_}
 use lib.Dec.{eqb}
 use Rattle.text.specs.Bytes.{bytes}
-use Rattle.lexing.specs.Tokens.{Token, tokens}
+use Rattle.tokens.specs.Tokens.{Token, tokens}
+pub use Rattle.tokens.specs.Tokens.{first, rest, ended}
 
 -- one reader after another, none where one of them reads nothing; `do` is written with it
 infixl 20 _>>=_
 abbrev pub _>>=_ : {A B : Type 0} → Option A → (A → Option B) → Option B
 none >>= f = none
 some a >>= f = f a
-
--- the first token, where the end of the text counts as an empty one, and the tokens after it
-abbrev pub first : List Token → Token
-first [] = []
-first (t ∷ ts) = t
-
-abbrev pub rest : List Token → List Token
-rest [] = []
-rest (t ∷ ts) = ts
-
--- whether no token is left
-abbrev pub ended : List Token → Bool
-ended [] = true
-ended (t ∷ ts) = false
 
 -- whether two tokens are the same
 abbrev pub same : List ℕ → List ℕ → Bool

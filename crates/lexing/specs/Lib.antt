@@ -1,10 +1,9 @@
--- How a text becomes lines and tokens (document 01, "The sheet", and document 02, order 1), and what readers of forms and numbers read
--- from tokens. `internal` has what the contracts of private functions cite; no public contract does.
-pub mod Lines
-pub mod Tokens
+-- What readers of forms and numbers read from the tokens of a text (document 01, "The sheet"); with lines, tokens and places of a text, as the
+-- crates below define them.
+pub use Rattle.tokens.specs.Lines
+pub use Rattle.tokens.specs.Tokens
+pub use Rattle.tokens.specs.Respaced
+pub use Rattle.tokeniser.specs.Places
 pub mod Forms
 pub mod Numbers
-pub mod Places
 pub mod Results
-pub mod Respaced
-pub mod internal

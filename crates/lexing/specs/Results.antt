@@ -5,8 +5,8 @@ use mathlib.Core.List.{List}
 use mathlib.Core.Option.{Option, none, some}
 use Prim.Native.Nat.{ℕ, _≤_}
 use lib.ListN.{length}
-use Rattle.lexing.specs.Tokens.{Token}
-use Rattle.lexing.specs.Places.{tokensAt}
+use Rattle.tokens.specs.Tokens.{Token}
+use Rattle.tokeniser.specs.Places.{tokensAt}
 use Rattle.lexing.specs.declared.forms.Followed as followed
 use Rattle.lexing.specs.declared.forms.Number as number
 

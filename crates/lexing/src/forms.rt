@@ -2,19 +2,20 @@
 ghost use Prim.Native.Nat.{_≤_, min};
 ghost use mathlib.Core.Path.{_≡_};
 ghost use lib.ListN.{length};
-ghost use Rattle.lexing.specs.Tokens.{tokens};
+ghost use Rattle.tokens.specs.Tokens.{tokens};
+ghost use Rattle.tokeniser.specs.Places.{tokensAt};
+ghost use Rattle.tokeniser.specs.NextToken.{bytesOf};
 ghost use Rattle.lexing.specs.Forms.{same};
 ghost use Rattle.lexing.specs.Forms;
 ghost use Rattle.lexing.specs.Numbers.{longestNumber, number, numberAfter, followNumber};
-ghost use Rattle.lexing.specs.Places.{tokensAt};
 ghost use Rattle.lexing.specs.Results.{Follows, ReadsNumber};
-ghost use Rattle.lexing.specs.internal.Lexed.{bytesOf};
-use crate::numbers;
-use crate::tokens::Cursor;
-use crate::tokens::Token;
-use crate::tokens::ended;
-use crate::tokens::inside;
-use crate::tokens::next_token;
+use numerals::Numeral;
+use numerals::read_digits;
+use tokeniser::Cursor;
+use tokeniser::Token;
+use tokeniser::ended;
+use tokeniser::inside;
+use tokeniser::next_token;
 
 // The place after the tokens of a form.
 pub enum Followed {
@@ -63,15 +64,14 @@ pub fn follow(s: &[u8], c: Cursor, form: &[u8]) -> Followed
 pub fn read_number(s: &[u8], c: Cursor, most: usize) -> Number
     ensures { λ r. ⌜ ReadsNumber (now (s .entry)) r (number (min most longestNumber) (tokensAt (now (s .entry)) c)) ⌝ }
 {
-    let t = next_token(s, inside(s, c));
+    let t = next_token(s, c);
     let from = t.from;
     let to = t.to;
-    let w = &s[from..to];
-    if !numbers::is_number(w, most) {
+    let Numeral::Value(n) = read_digits(&s[from..to], most) else {
         return Number::Missed;
-    }
+    };
     let next = t.next;
-    Number::Value(numbers::decimal(w), next)
+    Number::Value(n, next)
 }
 
 // A form's text, and then a number in one to `most` digits, of which no more than 19 are read.

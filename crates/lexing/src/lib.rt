@@ -1,4 +1,2 @@
-// Tokens of a text, without its spaces, remarks and blank lines, and readers of forms and numbers at any place of it.
+// Readers of forms and numbers at any place of a text.
 pub mod forms;
-mod numbers;
-pub mod tokens;

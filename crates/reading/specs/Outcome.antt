@@ -7,7 +7,7 @@ use Rattle.sheet.specs.Limits.{blankTable}
 use Rattle.sheet.specs.Answers.{Answer, refused, accepted}
 use Rattle.lexing.specs.Tokens.{Token}
 use Rattle.lexing.specs.Places.{tokensAt, start}
-use Rattle.lexing.specs.declared.tokens.Cursor.{Cursor}
+use Rattle.tokeniser.specs.declared.Cursor.{Cursor}
 use Rattle.sheet_lines.specs.Kept.{yard}
 use Rattle.sheet_lines.specs.declared.yards.Yard.{Yard}
 use Rattle.reading.specs.Reading.{Contents, sheetOf}

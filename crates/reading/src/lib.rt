@@ -7,7 +7,6 @@ ghost use Rattle.sheet_lines.specs.Alone.{mayFollow};
 ghost use Rattle.reading.specs.Reading.{sheetAtFront, reading, readingFront};
 ghost use Rattle.reading.specs.Outcome.{outcome, tableIn, ReadsFront};
 use lexing::forms::Followed;
-use lexing::tokens::Cursor;
 use sheet::Sheet;
 use sheet::Table;
 use sheet::is_within;
@@ -17,6 +16,7 @@ use sheet_lines::end::end_line;
 use sheet_lines::head::Head;
 use sheet_lines::head::read_head;
 use sheet_lines::yards::Yard;
+use tokeniser::Cursor;
 
 // What reading answers: the number of the reason to refuse the text, or the counts.
 pub enum Answer {

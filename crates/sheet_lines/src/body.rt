@@ -12,9 +12,9 @@ ghost use Rattle.sheet_lines.specs.internal.Results.{ReadsLines};
 use crate::yards::Yard;
 use crate::yards::both;
 use crate::yards::yard_line;
-use lexing::tokens::Cursor;
 use sheet::Sheet;
 use sheet::lesser;
+use tokeniser::Cursor;
 
 // What the lines give: whether they stand as they should, whether all marks are allowed, what each yard's line gives, and the place after
 // the lines.

@@ -7,8 +7,8 @@ ghost use Rattle.sheet_lines.specs.Alone.{mayFollow};
 use crate::forms::LAST_LINE;
 use lexing::forms::Followed;
 use lexing::forms::follow;
-use lexing::tokens::Cursor;
-use lexing::tokens::ended;
+use tokeniser::Cursor;
+use tokeniser::ended;
 
 // Whether what stands here may stand behind a sheet: nothing, behind one that is to stand alone.
 fn may_follow(s: &[u8], c: Cursor, alone: bool) -> bool

@@ -9,8 +9,8 @@ use lexing::forms::Followed;
 use lexing::forms::Number;
 use lexing::forms::follow;
 use lexing::forms::number_after;
-use lexing::tokens::Cursor;
 use sheet::Sheet;
+use tokeniser::Cursor;
 
 // The counts of yards and pieces, and the place after the first line.
 pub enum Head {

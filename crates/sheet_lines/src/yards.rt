@@ -16,10 +16,10 @@ use lexing::forms::Number;
 use lexing::forms::follow;
 use lexing::forms::follow_number;
 use lexing::forms::read_number;
-use lexing::tokens::Cursor;
 use sheet::Mark;
 use sheet::Row;
 use sheet::Sheet;
+use tokeniser::Cursor;
 
 // How many marks there are that are allowed.
 const MARK_VALUES: u64 = Sheet::GREATEST_MARK + 1;

@@ -13,7 +13,7 @@ use Rattle.reading.specs.Reading.{Contents, sheetOf, readingFront}
 use Rattle.reading.specs.Outcome.{outcome, tableIn, LeavesOff, ReadsFront}
 use Rattle.reading.specs.declared.Answer.the-variants.{Refused, Accepted}
 use Rattle.reading.specs.declared.Front.{Front}
-use Rattle.lexing.specs.declared.tokens.Cursor.{Cursor}
+use Rattle.tokeniser.specs.declared.Cursor.{Cursor}
 use Rattle.reading.proofs.Composed.{HasTable, accepted-has-table}
 use Rattle.reading.proofs.AtFront.{front-passes}
 

@@ -4,11 +4,11 @@ use mathlib.Core.List.{List}
 use mathlib.Core.Option.{Option, none, some}
 use mathlib.Core.Bool.{Bool, true, false, cond}
 use Prim.Native.Nat.{ℕ, zero, suc, _+_, _≤_}
-use Rattle.lexing.specs.Tokens.{Token}
+use Rattle.tokens.specs.Tokens.{Token}
 use Rattle.lexing.specs.Forms.{_>>=_, first, rest, inTurn}
 use Rattle.lexing.specs.Numbers.{isNumber, digitsAfter, number}
 use Rattle.lexing.proofs.readers.InTurn.{Holds}
-use Rattle.lexing.proofs.readers.Numbers.{isNumber-wider}
+use Rattle.numerals.proofs.Digits.{isNumber-wider}
 
 -- what o reads, if anything, is read by o′ too
 abbrev pub AlsoReads : {A : Type 0} → Option A → Option A → Type 0

@@ -4,11 +4,11 @@ use mathlib.Core.List.{List}
 use mathlib.Core.Option.{none, some}
 use mathlib.Core.Bool.{Bool, true, false, cond}
 use Prim.Native.Nat.{ℕ, _^_, _<_}
-use Rattle.lexing.specs.Tokens.{Token}
+use Rattle.tokens.specs.Tokens.{Token}
 use Rattle.lexing.specs.Forms.{first, rest, follow}
 use Rattle.lexing.specs.Numbers.{isNumber, digitsAfter, number, numberAfter}
 use Rattle.lexing.proofs.readers.InTurn.{Holds, read-holds}
-use Rattle.lexing.proofs.readers.Numbers.{isNumber-below}
+use Rattle.numerals.proofs.Digits.{isNumber-below}
 
 pub number-below : (most : ℕ) (ts : List Token) → Holds (λ r. r .0 < 10 ^ most) (number most ts)
 unfolding number

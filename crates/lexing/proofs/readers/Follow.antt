@@ -4,12 +4,12 @@ use mathlib.Core.List.{List, [], _∷_}
 use mathlib.Core.Option.{none, some}
 use mathlib.Core.Bool.{true, false, cond, true≢false, false≢true}
 use Prim.Native.Nat.{ℕ}
-use Rattle.lexing.specs.Tokens.{Token}
+use Rattle.tokens.specs.Tokens.{Token}
 use Rattle.lexing.specs.Forms.{first, rest, ended, same, follow}
-use Rattle.lexing.specs.Places.{tokensAt}
-use Rattle.lexing.specs.internal.Lexed.{bytesOf, NextToken}
-use Rattle.lexing.specs.declared.tokens.Cursor.{Cursor}
-use Rattle.lexing.specs.declared.tokens.Token as token
+use Rattle.tokeniser.specs.Places.{tokensAt}
+use Rattle.tokeniser.specs.NextToken.{bytesOf, NextToken}
+use Rattle.tokeniser.specs.declared.Cursor.{Cursor}
+use Rattle.tokeniser.specs.declared.Token as token
 
 -- the whole form is followed
 pub follow-end : (fs ts : List Token) → ended fs ≡ true → follow fs ts ≡ some ts

@@ -6,7 +6,7 @@ use Prim.Native.Nat.{ℕ, zero, suc, _+_, _-_, _≤_, _<_}
 use native.Mathlib.Omega.{arith}
 use lib.ListN.{length}
 use Rattle.lists.proofs.members.Each.{Each}
-use Rattle.lexing.specs.Tokens.{Token}
+use Rattle.tokens.specs.Tokens.{Token}
 use Rattle.lexing.specs.Forms.{_>>=_, inTurn}
 
 -- what is read, if anything is, has the property P

@@ -4,7 +4,7 @@ use mathlib.Core.List.{List, _∷_}
 use mathlib.Core.Option.{none, some, Option·some-injective, Option·none-ne-some}
 use mathlib.Core.Bool.{Bool, true, false, cond}
 use Prim.Native.Nat.{ℕ}
-use Rattle.lexing.specs.Tokens.{Token}
+use Rattle.tokens.specs.Tokens.{Token}
 use Rattle.lexing.specs.Numbers.{isNumber, digitsAfter, number}
 
 pub passed : {A : Type 0} (test : Bool) (a b : A) → cond test (some a) none ≡ some b → (test ≡ true) × (a ≡ b)

@@ -8,11 +8,11 @@ use native.Mathlib.Numerals.{add-one}
 use borrow.Author.Tests.{eq-eqb}
 use Rattle.lists.specs.Lists.{range}
 use Rattle.text.specs.Decimal.{decimal}
-use Rattle.lexing.specs.Tokens.{Token}
+use Rattle.tokens.specs.Tokens.{Token}
 use Rattle.lexing.specs.Forms.{follow, inTurn}
 use Rattle.lexing.specs.Numbers.{number, numberAfter, followNumber}
 use Rattle.lexing.proofs.readers.Same.{same-refl}
-use Rattle.lexing.proofs.readers.Decimal.{decimal-value, decimal-isNumber}
+use Rattle.numerals.proofs.DecimalDigits.{decimal-value, decimal-isNumber}
 
 pub follow-append : (fs ts : List Token) → follow fs (fs ++ ts) ≡ some ts
 unfolding follow

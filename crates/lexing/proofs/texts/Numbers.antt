@@ -9,11 +9,11 @@ use borrow.Author.Tests.{leb-true, ne-eqb}
 use Rattle.lists.specs.Lists.{all}
 use Rattle.text.specs.Decimal.{decimal, spacedNumber, spacedNumbers}
 use Rattle.text.proofs.Decimal.{decimal-first}
-use Rattle.lexing.specs.Lines.{lineFeed, space, semicolon}
-use Rattle.lexing.specs.Tokens.{Token, opening, closing, isBracket, isWordByte}
+use Rattle.tokens.specs.Lines.{lineFeed, space, semicolon}
+use Rattle.tokens.specs.Tokens.{Token, opening, closing, isBracket, isWordByte}
 use Rattle.lexing.specs.Numbers.{isDigit, allDigits}
-use Rattle.lexing.proofs.texts.Parts.{Lexes, _then_, nothing-lexed, spaced-word-lexed, bracket-word-lexed}
-use Rattle.lexing.proofs.readers.Decimal.{decimal-allDigits}
+use Rattle.tokens.proofs.texts.Parts.{Lexes, _then_, nothing-lexed, spaced-word-lexed, bracket-word-lexed}
+use Rattle.numerals.proofs.DecimalDigits.{decimal-allDigits}
 
 -- digits are word bytes, and a number behind a space is a token
 digit-is-word-byte : (b : ℕ) → isDigit b ≡ true → isWordByte b ≡ true

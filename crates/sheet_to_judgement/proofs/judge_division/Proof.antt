@@ -6,7 +6,7 @@ use lib.ListN.{length}
 use Rattle.sheet.specs.Answers.{refused, after}
 use Rattle.sheet.specs.declared.Sheet.{Sheet}
 use Rattle.lexing.specs.Places.{tokensAt}
-use Rattle.lexing.specs.declared.tokens.Cursor.{Cursor}
+use Rattle.tokeniser.specs.declared.Cursor.{Cursor}
 use Rattle.reading.specs.Reading.{readingFront}
 use Rattle.writing.specs.Filled.{filled}
 use Rattle.writing.specs.Answered.{answered}

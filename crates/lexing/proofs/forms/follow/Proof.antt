@@ -7,10 +7,10 @@ use denote.Ref.{now}
 use borrow.Author.Needs.{needs}
 use borrow.Author.Tests.{not-true, not-false}
 use lib.ListN.{length}
-use Rattle.lexing.specs.Tokens.{tokens}
+use Rattle.tokens.specs.Tokens.{tokens}
 use Rattle.lexing.specs.Forms.{ended, follow}
-use Rattle.lexing.specs.Places.{tokensAt}
-use Rattle.lexing.proofs.texts.Places.{tokens-start}
+use Rattle.tokeniser.specs.Places.{tokensAt}
+use Rattle.tokeniser.proofs.Places.{tokens-start, tokens-inside, inside-text}
 use Rattle.lexing.proofs.readers.Follow.{follow-end, follow-missed, follow-passed}
 use Rattle.lexing.proofs.forms.follow.Statement.{statement}
 use Rattle.lexing.proofs.forms.follow.Tie as tie
@@ -26,7 +26,7 @@ abbrev μ-loop : tie.MeasureT-loop
 -- the loop begins with the whole form, at the place given
 begun : (c : tie.After-start Inv-loop μ-loop) → let a = c .before .before .before .before .args in
     follow (tokens (now (a .form))) (tokensAt (now (a .s)) (a .c)) ≡ follow (tokensAt (now (a .form)) (c .start .result)) (tokensAt (now (a .s)) (c .before .inside .result))
-begun c = rw (c .start .ensures, tokens-start, c .before .inside .ensures .1)
+begun c = rw (c .start .ensures, tokens-start, c .before .inside .ensures, tokens-inside)
 
 -- a token of the form is left where the loop goes on
 form-left : (c : tie.Then1 Inv-loop μ-loop) → let loop = c .before .before in let a = loop .before .before .before .before .before .args in
@@ -40,7 +40,7 @@ start-requires : tie.Need-start-requires Inv-loop μ-loop
 start-requires c κs = tt
 
 loop-holds : tie.Need-loop-holds Inv-loop μ-loop
-loop-holds c = (c .before .inside .ensures .0, rw (c .start .ensures) (omega arith), refl)
+loop-holds c = (rw (c .before .inside .ensures) (inside-text _ _), rw (c .start .ensures) (omega arith), refl)
 
 ended-requires : tie.Need-ended-requires Inv-loop μ-loop
 ended-requires c κs = tt

@@ -1,0 +1,3 @@
+-- Laws of digits: the bounds that they keep, and the numbers that they stand for.
+pub mod Digits
+pub mod DecimalDigits
