@@ -1,6 +1,4 @@
 -- What the contracts of the private functions cite. No contract of a public function cites these.
-pub mod Suiting
 pub mod Allocation
 pub mod Left
 pub mod Shared
-pub mod Settled

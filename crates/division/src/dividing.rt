@@ -5,14 +5,13 @@ ghost use Rattle.lists.specs.Lists.{Within};
 ghost use Rattle.sheet.specs.Limits.{mostAgents};
 ghost use Rattle.sheet.specs.Sets.{itemsOf};
 ghost use Rattle.cut.specs.Outcome.{placed};
+ghost use Rattle.margins.specs.Terms.{termsFor};
 ghost use Rattle.serving.specs.Serving.{agentsIn};
-ghost use Rattle.division.specs.internal.Allocation.{nothing, withRound, allottedAll};
+ghost use Rattle.division.specs.internal.Allocation.{nothing, stored, withRound, allottedAll};
 ghost use Rattle.division.specs.internal.Left.{instanceFrom, cutByLowest, Cuttable, EnoughFor, Ready};
-use crate::handing::store;
-use crate::settling::settle_round;
 use cut::Partition;
 use cut::cut;
-use margins::Terms;
+use settling::settle_round;
 use sheet::Sets;
 use sheet::Sheet;
 use sheet::Table;
@@ -35,6 +34,21 @@ pub(crate) fn nothing_handed_out() -> Allocation
         cutters: [0; Sheet::AGENTS],
         rounds: 0,
     }
+}
+
+// The sets with those of the agents served put in their places.
+fn store(places: Sets, served: &[u8], sets: Sets) -> Sets
+    requires { do ⌜ Within mostAgents (now served) × ((← ⟦served.len()⟧) ≤ mostAgents) ⌝ }
+    ensures { λ r. ⌜ r ≡ stored (now (served .entry)) sets places ⌝ }
+{
+    let mut bundles = places;
+    let mut i: usize = 0;
+    while i < served.len() {
+        let agent = served[i] as usize;
+        bundles[agent - 1] = sets[i];
+        i += 1;
+    }
+    bundles
 }
 
 // One round more: its cutter, and the sets of the agents served.
@@ -70,21 +84,21 @@ fn cut_by_lowest(table: Table, left: u16, set: u16, allowance: u32) -> Partition
 }
 
 // The allocation once the agents left have divided the items left: one round, and the agents that wait divide what it leaves, with the same
-// allowance. `partition` is the cutter's cut of the items left.
+// allowance, in a division among so many agents. `partition` is the cutter's cut of the items left.
 pub(crate) fn divide_left(
     table: Table,
     shares: Amounts,
-    terms: Terms,
+    agents: usize,
     allowance: u32,
     left: u16,
     set: u16,
     partition: Partition,
     allocation: Allocation,
 ) -> Allocation
-    requires { ⌜ Ready terms shares allowance left set allocation × (partition ≡ placed (cutByLowest table (agentsIn left) (itemsOf set))) ⌝ }
-    ensures { λ r. ⌜ r ≡ allottedAll (instanceFrom terms table shares) (agentsIn left) (itemsOf set) allocation ⌝ }
+    requires { ⌜ Ready agents shares allowance left set allocation × (partition ≡ placed (cutByLowest table (agentsIn left) (itemsOf set))) ⌝ }
+    ensures { λ r. ⌜ r ≡ allottedAll (instanceFrom (termsFor agents) table shares) (agentsIn left) (itemsOf set) allocation ⌝ }
 {
-    let round = settle_round(table, shares, terms, left, set, partition);
+    let round = settle_round(table, shares, agents, left, set, partition);
     let served = round.served;
     let numbers = served.numbers;
     let count = served.count;
@@ -96,5 +110,5 @@ pub(crate) fn divide_left(
     }
     let rest = round.left;
     let next = cut_by_lowest(table, waiting, rest, allowance);
-    divide_left(table, shares, terms, allowance, waiting, rest, next, given)
+    divide_left(table, shares, agents, allowance, waiting, rest, next, given)
 }

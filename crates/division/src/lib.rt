@@ -10,7 +10,6 @@ use crate::dividing::nothing_handed_out;
 use grading::grade_of;
 use grading::worths_of;
 use margins::margins_of;
-use margins::terms_for;
 use shares::Cut;
 use shares::share_each_within;
 use sheet::Sets;
@@ -20,9 +19,6 @@ use sheet::amounts::Amounts;
 use sheet::naming::all_items;
 
 mod dividing;
-mod handing;
-mod settling;
-mod suiting;
 
 // The number of the reason why the table is refused, or the grade of its division.
 pub enum Answer {
@@ -75,7 +71,7 @@ fn divide_shared(
     let allocation = divide_left(
         table,
         shares,
-        terms_for(agents),
+        agents,
         allowance,
         all_items(agents),
         all_items(items),

@@ -2,7 +2,7 @@
 -- Assumes nothing.
 use mathlib.Core.Path.{_≡_, ap, ap₂, subst⁻¹, _∙_}
 use mathlib.Core.List.{[]}
-use Prim.Native.Nat.{ℕ, min}
+use Prim.Native.Nat.{ℕ}
 use native.Mathlib.Omega.{arith}
 use lib.ListN.{getD}
 use borrow.Author.Needs.{needs}
@@ -16,7 +16,6 @@ use Rattle.shares.specs.declared.Outcome.{Outcome}
 use Rattle.grading.specs.Grade.{gradeIn}
 use Rattle.serving.specs.Serving.{agentsIn}
 use Rattle.margins.specs.Terms.{termsFor}
-use Rattle.margins.specs.declared.Terms.{Terms}
 use Rattle.division.specs.internal.Left.{instanceFrom, Ready}
 use Rattle.division.specs.internal.Allocation.{nothing, allottedAll}
 use Rattle.division.specs.declared.dividing.Allocation.{Allocation}
@@ -30,25 +29,15 @@ array-copy-out-first c = search needs
 nothing-handed-out-requires : tie.Need-nothing-handed-out-requires
 nothing-handed-out-requires c κs = search needs
 
-terms-for-requires : tie.Need-terms-for-requires
-terms-for-requires c κs = search needs
-
 all-items-requires : tie.Need-all-items-requires
 all-items-requires c κs = search needs
 
 all-items-requires-2 : tie.Need-all-items-requires-2
 all-items-requires-2 c κs = search needs
 
--- the start, before the point where the terms are known
-abbrev start : tie.After-terms-for → tie.Start
-start c = c .before .before .before .before .before .before
-
--- the terms for the agents
-terms-are : (c : tie.After-terms-for) → c .terms-for .result ≡ termsFor (start c .args .agents)
-terms-are c =
-    let s = start c in
-    let agents : min (s .args .agents) mostAgents ≡ s .args .agents = omega (arith, s .pre .counts .few) in
-    c .terms-for .ensures ∙ ap termsFor agents
+-- the start, before the point where nothing is handed out
+abbrev start : tie.After-nothing-handed-out → tie.Start
+start c = c .before .before .before .before .before
 
 -- the set of all agents, and that of all items
 agents-are : (c : tie.After-all-items) → let s = start (c .before) in c .all-items .result ≡ allAgents (s .args .agents) (s .args .items) (s .args .table) (s .pre .counts)
@@ -63,12 +52,12 @@ items-are c =
 
 divide-left-requires : tie.Need-divide-left-requires
 divide-left-requires c κs =
-    let at-terms = c .before .before in
-    let s = start at-terms in
+    let at-nothing = c .before .before in
+    let s = start at-nothing in
     let a = s .args in
     let none : Cut = record { partition = [] } in
-    rw (terms-are at-terms, agents-are (c .before), items-are c) (
-      subst⁻¹ (Ready (termsFor (a .agents)) (a .own .shares) (a .allowance) (setOf (range 1 (a .agents))) (setOf (range 1 (a .items)))) (at-terms .before .nothing-handed-out .ensures)
+    rw (agents-are (c .before), items-are c) (
+      subst⁻¹ (Ready (a .agents) (a .own .shares) (a .allowance) (setOf (range 1 (a .agents))) (setOf (range 1 (a .items)))) (at-nothing .nothing-handed-out .ensures)
           (ready-all (a .agents) (a .items) (a .table) (s .pre .counts) (a .allowance) (s .pre .enough) (a .own .shares) (s .pre .small-shares)),
       ap (λ o. getD (o .cuts) 0 none .partition) (s .pre .own-shares) ∙ first-cut (a .agents) (a .items) (a .table) (s .pre .counts) none,
     )
@@ -89,17 +78,17 @@ handed : (c : tie.After-divide-left)
     × (c .divide-left .result .cutters ≡ placedCutters (s .args .agents) (s .args .items) (s .args .table) (s .pre .counts))
 handed c =
     let at-items = c .before in
-    let at-terms = at-items .before .before in
-    let s = start at-terms in
+    let at-nothing = at-items .before .before in
+    let s = start at-nothing in
     let a = s .args in
-    let run : Terms → Outcome → ℕ → ℕ → Allocation → Allocation = λ terms own left set. allottedAll (instanceFrom terms (a .table) (own .shares)) (agentsIn left) (itemsOf set) in
+    let run : Outcome → ℕ → ℕ → Allocation → Allocation = λ own left set. allottedAll (instanceFrom (termsFor (a .agents)) (a .table) (own .shares)) (agentsIn left) (itemsOf set) in
     let left = at-items .before .all-items .result in
     let set = at-items .all-items2 .result in
     let out =
     c .divide-left .ensures
-    ∙ ap (run (at-terms .terms-for .result) (a .own) left set) (at-terms .before .nothing-handed-out .ensures)
-    ∙ ap₂ (λ terms own. run terms own left set nothing) (terms-are at-terms) (s .pre .own-shares)
-    ∙ ap₂ (λ left set. run (termsFor (a .agents)) (outcome (sharing (a .agents) (a .items) (a .table))) left set nothing) (agents-are (at-items .before)) (items-are at-items) in
+    ∙ ap (run (a .own) left set) (at-nothing .nothing-handed-out .ensures)
+    ∙ ap (λ own. run own left set nothing) (s .pre .own-shares)
+    ∙ ap₂ (λ left set. run (outcome (sharing (a .agents) (a .items) (a .table))) left set nothing) (agents-are (at-items .before)) (items-are at-items) in
     let accepted = allotted-accepted (a .agents) (a .items) (a .table) (s .pre .counts) in
     (ap (λ r. r .bundles) out ∙ accepted .0, ap (λ r. r .cutters) out ∙ accepted .1)
 
@@ -120,7 +109,6 @@ divide-shared-spec =
     (tie.spec
     array-copy-out-first
     nothing-handed-out-requires
-    terms-for-requires
     all-items-requires
     all-items-requires-2
     divide-left-requires

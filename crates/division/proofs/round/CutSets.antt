@@ -1,10 +1,10 @@
--- The code's round: with the sets of the cutter's bundles and the table of what suits whom it settles what the definition's round does.
+-- The code's round: by the cutter's partition it settles what the definition's round does.
 -- Assumes nothing.
 use mathlib.Core.Path.{_≡_, sym, ap, ap₂, _∙_}
 use mathlib.Core.Bool.{Bool, false}
 use mathlib.Core.List.{List, [], map, map-map, List·Memᴰ as Mem}
 use mathlib.Core.List.{Sublistᴰ·trans as sublist-trans}
-use Prim.Native.Nat.{ℕ, _+_, _-_, _*_, _≤_}
+use Prim.Native.Nat.{ℕ, _+_, _-_, _*_, _≤_, min}
 use native.Mathlib.Omega.{arith}
 use lib.Dec.{eqb, leb}
 use lib.ListN.{length, length-map}
@@ -15,11 +15,12 @@ use Rattle.lists.proofs.members.Counting.{sublist-mem}
 use Rattle.lists.proofs.sums.Totals.{map-cong}
 use Rattle.lists.proofs.places.Zeros.{total-zeros}
 use Rattle.lists.proofs.ranges.RangeSublists.{range-sublist-few}
-use Rattle.sheet.specs.Limits.{mostAgents, mostItems, setBits}
+use Rattle.sheet.specs.Limits.{mostAgents, mostItems, setBits, greatestSum}
 use Rattle.sheet.specs.Sets.{itemsOf, setOf}
 use Rattle.sheet.specs.Valuations.{itemValue, value}
 use Rattle.sheet.specs.Tables.{valuation}
 use Rattle.sheet.specs.Listed.{numbered}
+use Rattle.sheet.specs.Amounts.{SmallAmounts}
 use Rattle.sheet.proofs.sets.Sets.{items-setOf}
 use Rattle.sheet.proofs.sets.Items.{items-sublist, setOf-items}
 use Rattle.bundling.specs.Bundles.{bundle, bundleSets}
@@ -28,37 +29,48 @@ use Rattle.cut.specs.Outcome.{placed}
 use Rattle.cut.proofs.Laws.{maximinPartition-within}
 use Rattle.matching.specs.Matching.{cutterOf, bundleNumbers, waitingOf, servedOf, chosenOf}
 use Rattle.matching.proofs.Congruence.{Agree}
-use Rattle.matching.proofs.Parts.{chosenOf-distinct}
-use Rattle.serving.specs.Serving.{suitsOf, agentsIn, servingOf}
+use Rattle.matching.proofs.Parts.{chosenOf-distinct, waitingOf-cong, servedOf-cong, chosenOf-cong}
+use Rattle.serving.specs.Serving.{agentsIn}
 use Rattle.serving.proofs.round.AgentsLeft.{agentsIn-sublist}
-use Rattle.serving.proofs.round.Parts.{chosen-within, servingOf-cong}
-use Rattle.rounds.specs.Round.{Instance, cutOf, round}
-use Rattle.margins.specs.declared.Terms.{Terms}
+use Rattle.serving.proofs.round.Parts.{chosen-within}
+use Rattle.margins.specs.Terms.{termsFor}
+use Rattle.rounds.specs.Round.{Instance, Round, cutOf, round}
 use Rattle.rounds.proofs.round.Parts.{cutSuits}
-use Rattle.division.specs.internal.Suiting.{setSuits, suitsRow, suitsTable}
+use Rattle.settling.specs.Suiting.{setSuits, suitsRow, suitsTable}
+use Rattle.settling.specs.Settling.{bundleSuits, settledBy}
+use Rattle.settling.specs.declared.Settled.{Settled}
 use Rattle.division.specs.internal.Left.{instanceFrom, Cuttable}
-use Rattle.division.specs.internal.Settled.{settled}
-use Rattle.division.specs.declared.settling.Settled.{Settled}
 use Rattle.division.proofs.round.SetSums.{setOf-handed}
 
-module _ {left set : ℕ} (ok : Cuttable left set) (terms : Terms) (table : List (List ℕ)) (shares : List ℕ) where
+-- what a round settles, as the code has it: sets for bundles, for those who wait and for the items left
+abbrev pub settled : Round → Settled
+settled r =
+    record {
+      cutter = r .cutter;
+      served = numbered (r .served);
+      sets = padded mostAgents 0 (map setOf (r .bundles));
+      waiting = setOf (r .waiting);
+      left = setOf (r .left);
+    }
+
+module _ {left set : ℕ} (ok : Cuttable left set) (n : ℕ) (few : n ≤ mostAgents) (table : List (List ℕ)) (shares : List ℕ) (small : SmallAmounts shares) where
   -- the agents left
   abbrev agents : List ℕ
   agents = agentsIn left
 
   abbrev G : Instance
-  G = instanceFrom terms table shares
+  G = instanceFrom (termsFor n) table shares
 
   -- the cutter's partition
   abbrev l : List ℕ
   l = cutOf G agents (itemsOf set)
 
   -- its bundles as sets
-  abbrev pub cutSets : List ℕ
+  abbrev cutSets : List ℕ
   cutSets = bundleSets set (placed l)
 
   -- what suits whom, by the definition
-  abbrev pub suiting : ℕ → ℕ → Bool
+  abbrev suiting : ℕ → ℕ → Bool
   suiting = cutSuits G agents (itemsOf set)
 
   entry-each : length l ≡ length (itemsOf set)
@@ -81,30 +93,38 @@ module _ {left set : ℕ} (ok : Cuttable left set) (terms : Terms) (table : List
       (sublist-trans (itemsIn-sublist (eqb c) (itemsOf set) l) (sublist-trans (items-sublist set mostItems (ok .small-set) (omega arith)) (range-sublist 1 mostItems setBits (omega arith))))
 
   -- the table says which bundles suit whom
-  abbrev pub tableSuits : ℕ → ℕ → Bool
-  tableSuits = suitsOf (suitsTable table shares terms cutSets)
+  abbrev tableSuits : ℕ → ℕ → Bool
+  tableSuits = bundleSuits n table shares left set (placed l)
 
   suits-agree : Agree tableSuits suiting agents (bundleNumbers agents)
   unfolding suitsTable suitsRow
   suits-agree agent ma c mc =
       let mostly = sublist-mem (range-sublist 1 (length agents) mostAgents (range-sublist-few mostAgents (agentsIn-sublist left))) mc in
-      ap (λ row. nth false row c) (nth-map-range (λ a. suitsRow (valuation table a) (nth 0 shares a) terms cutSets) [] mostAgents (sublist-mem (agentsIn-sublist left) ma))
-      ∙ nth-map-range (λ c. setSuits (valuation table agent) (nth 0 shares agent) terms (nth 0 cutSets c)) false mostAgents mostly
-      ∙ ap (λ ks. leb (terms .top * nth 0 shares agent) (terms .bottom * value (valuation table agent) ks)) (items-cutSets c mostly)
+      ap (λ row. nth false row c) (nth-map-range (λ a. suitsRow n (valuation table a) (nth 0 shares a) cutSets) [] mostAgents (sublist-mem (agentsIn-sublist left) ma))
+      ∙ nth-map-range (λ c. setSuits n (valuation table agent) (nth 0 shares agent) (nth 0 cutSets c)) false mostAgents mostly
+      ∙ ap (suitedBy (min n mostAgents) (min (nth 0 shares agent) greatestSum)) (items-cutSets c mostly)
+      ∙ ap₂ (λ k share. suitedBy k share (bundle (itemsOf set) l c)) agents-kept share-kept
+    where
+      -- a list of items, with so many agents and such a share
+      suitedBy : ℕ → ℕ → List ℕ → Bool
+      suitedBy k share ks = leb (termsFor k .top * share) (termsFor k .bottom * value (valuation table agent) ks)
 
-  -- who waits and who is served with what, by the table and by the definition
-  pub serving-same : servingOf tableSuits agents ≡ servingOf suiting agents
-  serving-same = servingOf-cong tableSuits suiting agents suits-agree
+      -- the code cuts neither
+      agents-kept : min n mostAgents ≡ n
+      agents-kept = omega arith
+
+      share-kept : min (nth 0 shares agent) greatestSum ≡ nth 0 shares agent
+      share-kept = omega (arith, small (agent - 1))
 
   -- the bundles that are handed out
-  abbrev pub handed : List ℕ
+  abbrev handed : List ℕ
   handed = chosenOf suiting agents
 
-  pub handed-within : Within mostAgents handed
+  handed-within : Within mostAgents handed
   handed-within = chosen-within suiting (agentsIn-sublist left)
 
   -- their sets
-  pub handed-sets : map (nth 0 cutSets) handed ≡ map setOf (map (bundle (itemsOf set) l) handed)
+  handed-sets : map (nth 0 cutSets) handed ≡ map setOf (map (bundle (itemsOf set) l) handed)
   handed-sets =
       map-cong (nth 0 cutSets) (λ c. setOf (bundle (itemsOf set) l c)) handed (λ c m. nth-cutSets c (within-mem mostAgents handed handed-within c m))
       ∙ sym (map-map setOf (bundle (itemsOf set) l) handed)
@@ -122,18 +142,21 @@ module _ {left set : ℕ} (ok : Cuttable left set) (terms : Terms) (table : List
         setOf-items set mostItems (ok .small-set) (omega arith),
       )
 
-  pub handed-part : total (padded mostAgents 0 (map (nth 0 cutSets) handed)) ≤ set
-  handed-part = omega (arith, handed-and-left)
-
-  pub left-rest : set - total (padded mostAgents 0 (map (nth 0 cutSets) handed)) ≡ setOf (round G agents (itemsOf set) .left)
+  left-rest : set - total (padded mostAgents 0 (map (nth 0 cutSets) handed)) ≡ setOf (round G agents (itemsOf set) .left)
   left-rest = omega (arith, handed-and-left)
 
-  -- what the code's round settles is what the definition's does
-  pub settled-round : (rest : ℕ) → rest ≡ set - total (padded mostAgents 0 (map (nth 0 cutSets) handed))
-      → record { cutter = cutterOf agents; served = numbered (servedOf suiting agents); sets = padded mostAgents 0 (map (nth 0 cutSets) handed); waiting = setOf (waitingOf suiting agents); left = rest }
-      ≡ settled (round G agents (itemsOf set))
-  unfolding round
-  settled-round rest e =
-      let made : List ℕ → ℕ → Settled = λ sets k.
-      record { cutter = cutterOf agents; served = numbered (servedOf suiting agents); sets = padded mostAgents 0 sets; waiting = setOf (waitingOf suiting agents); left = k } in
-      ap₂ made handed-sets (e ∙ left-rest)
+  -- what the code's round settles, from the agents served, those who wait and the sets handed out
+  abbrev settledFrom : List ℕ → List ℕ → List ℕ → ℕ → Settled
+  settledFrom served waiting sets rest =
+      record { cutter = cutterOf agents; served = numbered served; sets = padded mostAgents 0 sets; waiting = setOf waiting; left = rest }
+
+  -- it is what the definition's does
+  pub settled-round : settledBy n table shares left set (placed l) ≡ settled (round G agents (itemsOf set))
+  unfolding settledBy round
+  settled-round =
+      let sets-of : List ℕ → List ℕ = map (nth 0 cutSets) in
+      let rest-of : List ℕ → ℕ = λ chosen. set - total (padded mostAgents 0 (sets-of chosen)) in
+      let chosen = chosenOf tableSuits agents in
+      ap₂ (λ served waiting. settledFrom served waiting (sets-of chosen) (rest-of chosen)) (servedOf-cong tableSuits suiting agents suits-agree) (waitingOf-cong tableSuits suiting agents suits-agree)
+      ∙ ap (λ chosen. settledFrom (servedOf suiting agents) (waitingOf suiting agents) (sets-of chosen) (rest-of chosen)) (chosenOf-cong tableSuits suiting agents suits-agree)
+      ∙ ap₂ (settledFrom (servedOf suiting agents) (waitingOf suiting agents)) handed-sets left-rest

@@ -32,7 +32,7 @@ use Rattle.margins.proofs.Stored.{nth-marginsStored}
 use Rattle.grading.proofs.Grades.{grade-cong, gradeIn-within}
 use Rattle.serving.specs.Serving.{agentsIn}
 use Rattle.serving.proofs.round.AgentsLeft.{agentsIn-items}
-use Rattle.margins.specs.Terms.{largestOdd, termsFor}
+use Rattle.margins.specs.Terms.{termsFor}
 use Rattle.margins.specs.Margins.{margin, marginsStored}
 use Rattle.rounds.specs.Division.{standardInstance, allRounds, allocation, allocationMargins, divisionOf, divisionByRounds}
 use Rattle.rounds.proofs.density.Terms.{termsFor-allowed}
@@ -80,11 +80,10 @@ module _ (n m : ℕ) (table : List (List ℕ)) (counts : CountsWithin n m) where
 
   -- the rounds of all agents and all items may start
   pub ready-all : (allowance : ℕ) → growths n m ≤ allowance → (shares : List ℕ) → SmallAmounts shares
-      → Ready (termsFor n) shares allowance allAgents allItems nothing
-  unfolding termsFor largestOdd
+      → Ready n shares allowance allAgents allItems nothing
   ready-all allowance enough shares small =
       record {
-        small-terms = record { small-top = omega (arith, counts .few); small-bottom = omega (arith, counts .few) };
+        few = counts .few;
         small-shares = small;
         cuttable =
             record {

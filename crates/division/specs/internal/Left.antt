@@ -13,7 +13,6 @@ use Rattle.matching.specs.Matching.{cutterOf}
 use Rattle.serving.specs.Serving.{agentsIn}
 use Rattle.rounds.specs.Round.{Instance}
 use Rattle.margins.specs.declared.Terms.{Terms}
-use Rattle.division.specs.internal.Suiting.{SmallTerms}
 use Rattle.division.specs.declared.dividing.Allocation.{Allocation}
 
 -- the instance that the code hands from round to round
@@ -34,9 +33,9 @@ pub record Cuttable (left set : ℕ) : Type 0 where
 abbrev pub EnoughFor : ℕ → ℕ → ℕ → Type 0
 EnoughFor allowance left set = growths (length (agentsIn left)) (length (itemsOf set)) ≤ allowance
 
--- where the rounds may start: what they are handed is small enough, no cut is stopped, and there is a place for each round
-pub record Ready (terms : Terms) (shares : List ℕ) (allowance left set : ℕ) (a : Allocation) : Type 0 where
-  pub small-terms : SmallTerms terms
+-- where the rounds of n agents may start: what they are handed is small enough, no cut is stopped, and there is a place for each round
+pub record Ready (n : ℕ) (shares : List ℕ) (allowance left set : ℕ) (a : Allocation) : Type 0 where
+  pub few : n ≤ mostAgents
   pub small-shares : SmallAmounts shares
   pub cuttable : Cuttable left set
   pub enough : EnoughFor allowance left set

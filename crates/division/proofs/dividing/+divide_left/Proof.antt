@@ -5,17 +5,21 @@ use Prim.Native.Nat.{ℕ, _-_, _+_, _<_}
 use native.Mathlib.Omega.{arith}
 use lib.ListN.{length, set}
 use borrow.Fn.Kinds.{In}
+use borrow.Author.Needs.{needs}
 use borrow.Fn.PlainCycle.{Measures, is, falls, and}
 use Rattle.sheet.specs.Limits.{mostAgents}
 use Rattle.sheet.specs.Sets.{itemsOf, setOf}
 use Rattle.sheet.specs.Listed.{numbered, listed}
 use Rattle.sheet.proofs.listing.Listed.{listed-is, count-listed, count-places}
+use Rattle.margins.specs.Terms.{termsFor}
 use Rattle.serving.specs.Serving.{agentsIn}
+use Rattle.settling.specs.Settling.{settledBy}
 use Rattle.rounds.specs.Round.{Instance, Round, round}
 use Rattle.rounds.proofs.round.Parts.{waiting-falls}
 use Rattle.division.specs.internal.Left.{instanceFrom, Cuttable, EnoughFor}
 use Rattle.division.specs.internal.Allocation.{withRound, allottedAll}
 use Rattle.division.specs.declared.dividing.Allocation.{Allocation}
+use Rattle.division.proofs.round.CutSets.{settled, settled-round}
 use Rattle.division.proofs.round.NextRound.{served-within, served-few, agentsIn-next, none-waiting, itemsOf-next, enough-next, cuttable-next}
 use Rattle.division.proofs.rounds.Allotted.{stored-zeros, allotted-last, allotted-next}
 use Rattle.division.proofs.dividing.divide_left.Reads as divide-left
@@ -23,7 +27,7 @@ use Rattle.division.proofs.dividing.divide_left.Kinds as divide-left-ki
 use Rattle.division.proofs.dividing.+divide_left.Lts-divide_left as lts
 use Rattle.division.proofs.dividing.cut_by_lowest.Reads as cut-by-lowest-reads
 use Rattle.division.proofs.dividing.hand_out.Reads as hand-out-reads
-use Rattle.division.proofs.settling.settle_round.Reads as settle-round-reads
+use Rattle.settling.proofs.settle_round.Reads as settle-round-reads
 use Rattle.division.proofs.dividing.+divide_left.{statement}
 use Rattle.division.proofs.dividing.+divide_left.Tie.{close}
 
@@ -60,7 +64,7 @@ module _ (t : ℕ) where
   After-given = lts.After-hand-out (claims t) (divide-left-at t) divide-left.Post
 
   abbrev instance : Start → Instance
-  instance s = instanceFrom (s .args .terms) (s .args .table) (s .args .shares)
+  instance s = instanceFrom (termsFor (s .args .agents)) (s .args .table) (s .args .shares)
 
   -- the definition's round
   abbrev this-round : Start → Round
@@ -69,17 +73,27 @@ module _ (t : ℕ) where
   cuttable : (s : Start) → Cuttable (s .args .left) (s .args .set)
   cuttable s = s .pre .1 .0 .cuttable
 
+  -- what the round settles is what the definition's does
+  settled-is : (c : After-round) → c .settle-round .result ≡ settled (this-round (c .before))
+  settled-is c =
+      let s = c .before in
+      let a = s .args in
+      let ready = s .pre .1 .0 in
+      c .settle-round .ensures
+      ∙ ap (settledBy (a .agents) (a .table) (a .shares) (a .left) (a .set)) (s .pre .1 .1)
+      ∙ settled-round (cuttable s) (a .agents) (ready .few) (a .table) (a .shares) (ready .small-shares)
+
   served-is : (c : After-round) → c .settle-round .result .served ≡ numbered (this-round (c .before) .served)
-  served-is c = ap (λ r. r .served) (c .settle-round .ensures)
+  served-is c = ap (λ r. r .served) (settled-is c)
 
   served-listed : (c : After-round) → listed (c .settle-round .result .served) ≡ this-round (c .before) .served
   served-listed c = listed-is (this-round (c .before) .served) (served-is c)
 
   waiting-is : (c : After-round) → c .settle-round .result .waiting ≡ setOf (this-round (c .before) .waiting)
-  waiting-is c = ap (λ r. r .waiting) (c .settle-round .ensures)
+  waiting-is c = ap (λ r. r .waiting) (settled-is c)
 
   left-is : (c : After-round) → c .settle-round .result .left ≡ setOf (this-round (c .before) .left)
-  left-is c = ap (λ r. r .left) (c .settle-round .ensures)
+  left-is c = ap (λ r. r .left) (settled-is c)
 
   -- the allocation with the round
   given-is : (c : After-given)
@@ -95,11 +109,11 @@ module _ (t : ℕ) where
       let allocated : List ℕ → Allocation = λ bundles. record { bundles = bundles; cutters = set (a .cutters) (a .rounds) (r .cutter); rounds = a .rounds + 1 } in
       c .hand-out .ensures
       ∙ ap (λ served. withRound (at-round .settle-round .result .cutter) served (at-round .settle-round .result .sets) a) (served-listed at-round)
-      ∙ ap (λ q. withRound (q .cutter) (r .served) (q .sets) a) (at-round .settle-round .ensures)
+      ∙ ap (λ q. withRound (q .cutter) (r .served) (q .sets) a) (settled-is at-round)
       ∙ ap allocated (stored-zeros (r .served) sets (mostAgents - length sets) (a .bundles))
 
   settle-round-requires : lts.Need-settle-round-requires (claims t) (divide-left-at t) divide-left.Post
-  settle-round-requires c κs = let ready = c .pre .1 .0 in ((ready .small-terms, ready .small-shares, ready .cuttable), c .pre .1 .1)
+  settle-round-requires c κs = search needs
 
   array-share-prefix-numbers : lts.Need-array-share-prefix-numbers (claims t) (divide-left-at t) divide-left.Post
   array-share-prefix-numbers c = let at-round = c .before .before .before in count-places (this-round (at-round .before) .served) (served-is at-round)
@@ -156,7 +170,7 @@ module _ (t : ℕ) where
         omega (arith, s .pre .0, next, fewer),
         (
           record {
-            small-terms = ready .small-terms;
+            few = ready .few;
             small-shares = ready .small-shares;
             cuttable = next-cuttable (c .before);
             enough = next-enough (c .before);

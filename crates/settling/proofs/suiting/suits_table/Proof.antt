@@ -1,4 +1,4 @@
--- `division::suiting::suits_table` meets its contract. The loop's invariant: the first i rows are filled in. Assumes nothing.
+-- `settling::suiting::suits_table` meets its contract. The loop's invariant: the first i rows are filled in. Assumes nothing.
 use mathlib.Core.Path.{refl, sym, ap, _∙_}
 use mathlib.Core.Bool.{Bool}
 use mathlib.Core.List.{List, []}
@@ -6,19 +6,20 @@ use Prim.Native.Nat.{ℕ, _-_}
 use native.Mathlib.Nat.{add-sub-cancel}
 use native.Mathlib.Omega.{arith}
 use lib.ListN.{getD}
+use borrow.Author.Needs.{needs}
 use Rattle.lists.specs.Lists.{nth}
 use Rattle.sheet.specs.Limits.{mostAgents}
 use Rattle.sheet.specs.Tables.{valuation}
-use Rattle.division.specs.internal.Suiting.{suitsRow, suitsTable}
+use Rattle.settling.specs.Suiting.{suitsRow, suitsTable}
 use Rattle.lists.proofs.places.Filling.{Filled, fill-next, fill-all}
-use Rattle.division.proofs.suiting.suits_table.Statement.{statement}
-use Rattle.division.proofs.suiting.suits_table.Tie as tie
+use Rattle.settling.proofs.suiting.suits_table.Statement.{statement}
+use Rattle.settling.proofs.suiting.suits_table.Tie as tie
 
 abbrev Inv-loop : tie.InvT-loop
-Inv-loop terms sets table shares suits₀ i₀ suits i = Filled (λ agent. suitsRow (valuation table agent) (nth 0 shares agent) terms sets) mostAgents suits i
+Inv-loop agents sets table shares suits₀ i₀ suits i = Filled (λ agent. suitsRow agents (valuation table agent) (nth 0 shares agent) sets) mostAgents suits i
 
 abbrev μ-loop : tie.MeasureT-loop
-μ-loop terms sets table shares suits₀ i₀ suits i = mostAgents - i
+μ-loop agents sets table shares suits₀ i₀ suits i = mostAgents - i
 
 loop-holds : tie.Need-loop-holds Inv-loop μ-loop
 loop-holds c = record { within = omega arith; places = refl; filled = refl }
@@ -36,7 +37,7 @@ array-read-suits-row : tie.Need-array-read-suits-row Inv-loop μ-loop
 array-read-suits-row c = omega arith
 
 suits-row-requires : tie.Need-suits-row-requires Inv-loop μ-loop
-suits-row-requires c κs = let s = c .before .before .before in (s .pre .0, s .pre .1 (c .before .before .loop .i))
+suits-row-requires c κs = search needs
 
 mul-suits : tie.Need-mul-suits Inv-loop μ-loop
 mul-suits c = omega arith
@@ -54,7 +55,7 @@ loop-again : tie.Need-loop-again Inv-loop μ-loop
 loop-again c =
     let l = c .before .before .before .loop in
     let a = c .before .before .before .before .args in
-    let row : ℕ → List Bool = λ k. suitsRow (getD (a .t1) k []) (getD (a .t2) k 0) (a .terms) (a .sets) in
+    let row : ℕ → List Bool = λ k. suitsRow (a .agents) (getD (a .t1) k []) (getD (a .t2) k 0) (a .sets) in
     fill-next _ mostAgents (l .suits) (l .i) (l .inv) (c .suits-row .result) (c .suits-row .ensures ∙ ap row (sym (add-sub-cancel (l .i) 1))) (omega arith)
 
 returns : tie.Need-returns Inv-loop μ-loop

@@ -1,11 +1,10 @@
-// What one round hands out: the sets of the bundles chosen, each in the place of the agent that is served with it, and what is left.
+// What one round hands out: the sets of the bundles chosen, and what is left.
 ghost use mathlib.Core.Path.{_≡_};
 ghost use mathlib.Core.List.{map};
 ghost use Prim.Native.Nat.{_-_, _≤_};
 ghost use Rattle.lists.specs.Lists.{nth, padded, Within};
 ghost use Rattle.lists.specs.Sums.{total};
 ghost use Rattle.sheet.specs.Limits.{mostAgents};
-ghost use Rattle.division.specs.internal.Allocation.{stored};
 use sheet::Sets;
 use sheet::Sheet;
 
@@ -24,30 +23,18 @@ pub(crate) fn chosen_sets(sets: Sets, chosen: &[u8]) -> Sets
     handed
 }
 
-// The sets with those of the agents served put in their places.
-pub(crate) fn store(places: Sets, served: &[u8], sets: Sets) -> Sets
-    requires { do ⌜ Within mostAgents (now served) × ((← ⟦served.len()⟧) ≤ mostAgents) ⌝ }
-    ensures { λ r. ⌜ r ≡ stored (now (served .entry)) sets places ⌝ }
-{
-    let mut bundles = places;
-    let mut i: usize = 0;
-    while i < served.len() {
-        let agent = served[i] as usize;
-        bundles[agent - 1] = sets[i];
-        i += 1;
-    }
-    bundles
-}
-
-// The set without the sets that are handed out.
+// The set without the sets that are handed out, which are parts of it; 0 where they sum to more.
 pub(crate) fn left_of(set: u16, handed: Sets) -> u16
-    requires { ⌜ total handed ≤ set ⌝ }
     ensures { λ r. ⌜ r ≡ set - total handed ⌝ }
 {
     let mut left = set;
     let mut i: usize = 0;
     while i < Sheet::AGENTS {
-        left -= handed[i];
+        let taken = handed[i];
+        if left < taken {
+            return 0;
+        }
+        left -= taken;
         i += 1;
     }
     left

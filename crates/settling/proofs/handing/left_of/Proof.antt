@@ -1,4 +1,4 @@
--- `division::handing::left_of` meets its contract. The loop's invariant: the sets from place i on are still to be taken away. Assumes nothing.
+-- `settling::handing::left_of` meets its contract. The loop's invariant: the sets from place i on are still to be taken away. Assumes nothing.
 use mathlib.Core.Path.{_≡_, ap}
 use mathlib.Core.List.{List, []}
 use Prim.Native.Nat.{ℕ, _+_, _-_, _≤_, _<_}
@@ -9,15 +9,15 @@ use borrow.Kind.Array.{eInt, good-length}
 use Rattle.lists.specs.Sums.{total}
 use Rattle.sheet.specs.Limits.{mostAgents}
 use Rattle.lists.proofs.places.Passing.{drop-next}
-use Rattle.division.proofs.handing.left_of.Statement.{statement}
-use Rattle.division.proofs.handing.left_of.Tie as tie
+use Rattle.settling.proofs.handing.left_of.Statement.{statement}
+use Rattle.settling.proofs.handing.left_of.Tie as tie
 
 -- the set at place i is the next to be taken away
 total-next : (l : List ℕ) (i : ℕ) → i < length l → total (drop i l) ≡ getD l i 0 + total (drop (i + 1) l)
 total-next l i more = ap total (drop-next l i more)
 
 abbrev Inv-loop : tie.InvT-loop
-Inv-loop set handed left₀ i₀ left i = (i ≤ mostAgents) × (left ≡ set - total handed + total (drop i handed))
+Inv-loop set handed left₀ i₀ left i = (i ≤ mostAgents) × (left - total (drop i handed) ≡ set - total handed)
 
 abbrev μ-loop : tie.MeasureT-loop
 μ-loop set handed left₀ i₀ left i = mostAgents - i
@@ -25,17 +25,24 @@ abbrev μ-loop : tie.MeasureT-loop
 places : (s : tie.Start Inv-loop μ-loop) → length (s .args .t2) ≡ mostAgents
 places s = good-length (eInt w16) mostAgents (s .args .t2) _ (s .good .1 .0)
 
+-- the next set, in the loop
+next-taken : (c : tie.In-loop Inv-loop μ-loop)
+    → let handed = c .before .before .args .t2 in
+    let i = c .before .loop .i in
+    total (drop i handed) ≡ getD handed i 0 + total (drop (i + 1) handed)
+next-taken c = total-next (c .before .before .args .t2) (c .before .loop .i) (omega (arith, places (c .before .before)))
+
 loop-holds : tie.Need-loop-holds Inv-loop μ-loop
 loop-holds c = omega arith
 
-mul-left : tie.Need-mul-left Inv-loop μ-loop
-mul-left c = omega arith
+mul-taken : tie.Need-mul-taken Inv-loop μ-loop
+mul-taken c = omega arith
 
-array-read-left : tie.Need-array-read-left Inv-loop μ-loop
-array-read-left c = omega arith
+array-read-taken : tie.Need-array-read-taken Inv-loop μ-loop
+array-read-taken c = omega arith
 
-sub-left : tie.Need-sub-left Inv-loop μ-loop
-sub-left c = omega (arith, total-next (c .before .before .args .t2) (c .before .loop .i) (omega (arith, places (c .before .before))))
+returns : tie.Need-returns Inv-loop μ-loop
+returns c = omega (arith, next-taken (c .before))
 
 add-i : tie.Need-add-i Inv-loop μ-loop
 add-i c = omega arith
@@ -44,10 +51,10 @@ loop-less : tie.Need-loop-less Inv-loop μ-loop
 loop-less c = omega arith
 
 loop-again : tie.Need-loop-again Inv-loop μ-loop
-loop-again c = omega (arith, total-next (c .before .before .args .t2) (c .before .loop .i) (omega (arith, places (c .before .before))))
+loop-again c = omega (arith, next-taken (c .before))
 
-returns : tie.Need-returns Inv-loop μ-loop
-returns c =
+returns-2 : tie.Need-returns-2 Inv-loop μ-loop
+returns-2 c =
     let handed = c .before .before .args .t2 in
     let none : drop (c .before .loop .i) handed ≡ [] = drop-of-length-le handed {i = c .before .loop .i} (omega (arith, places (c .before .before))) in
     omega (arith, ap total none)
@@ -59,10 +66,10 @@ left-of-spec =
     Inv-loop
     μ-loop
     loop-holds
-    mul-left
-    array-read-left
-    sub-left
+    mul-taken
+    array-read-taken
+    returns
     add-i
     loop-less
     loop-again
-    returns)
+    returns-2)

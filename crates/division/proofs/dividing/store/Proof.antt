@@ -1,4 +1,4 @@
--- `division::handing::store` meets its contract. The loop's invariant: the agents from place i on are still to be stored. Assumes nothing.
+-- `division::dividing::store` meets its contract. The loop's invariant: the agents from place i on are still to be stored. Assumes nothing.
 use mathlib.Core.Path.{_≡_, refl, sym, ap, ap₂, _∙_}
 use mathlib.Core.List.{List, []}
 use Prim.Native.Nat.{ℕ, _+_, _-_, _≤_, _<_}
@@ -9,10 +9,10 @@ use lib.Seq.{getD-drop, drop-drop, drop-length}
 use Rattle.sheet.specs.Limits.{mostAgents}
 use Rattle.division.specs.internal.Allocation.{stored}
 use Rattle.lists.proofs.places.Passing.{drop-next, within-at}
-use Rattle.division.proofs.handing.store.Statement.{statement}
-use Rattle.division.proofs.handing.store.Tie as tie
-use Rattle.division.proofs.handing.store.Reads as reads
-use Rattle.division.proofs.handing.store.Lts as lts
+use Rattle.division.proofs.dividing.store.Statement.{statement}
+use Rattle.division.proofs.dividing.store.Tie as tie
+use Rattle.division.proofs.dividing.store.Reads as reads
+use Rattle.division.proofs.dividing.store.Lts as lts
 
 -- the agent at place i is the next to be stored
 stored-next : (served sets places : List ℕ) (i : ℕ) → i < length served

@@ -1,4 +1,4 @@
--- `division::handing::chosen_sets` meets its contract. The loop's invariant: the sets of the first i bundles chosen are stored. Assumes nothing.
+-- `settling::handing::chosen_sets` meets its contract. The loop's invariant: the sets of the first i bundles chosen are stored. Assumes nothing.
 use mathlib.Core.Path.{_≡_, refl, sym, ap, _∙_}
 use mathlib.Core.List.{List, [], _∷_, map, map-append}
 use Prim.Native.Nat.{ℕ, _+_, _-_, _≤_, _<_}
@@ -9,8 +9,8 @@ use Rattle.lists.specs.Lists.{nth, padded}
 use Rattle.sheet.specs.Limits.{mostAgents}
 use Rattle.lists.proofs.places.Padding.{padded-next}
 use Rattle.lists.proofs.places.Passing.{take-next, within-at}
-use Rattle.division.proofs.handing.chosen_sets.Statement.{statement}
-use Rattle.division.proofs.handing.chosen_sets.Tie as tie
+use Rattle.settling.proofs.handing.chosen_sets.Statement.{statement}
+use Rattle.settling.proofs.handing.chosen_sets.Tie as tie
 
 -- the sets of the first i bundles chosen, 0 after the last
 abbrev storedUpTo : List ℕ → List ℕ → ℕ → List ℕ

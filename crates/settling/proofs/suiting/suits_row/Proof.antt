@@ -1,22 +1,23 @@
--- `division::suiting::suits_row` meets its contract. The loop's invariant: the first i places are filled in. Assumes nothing.
+-- `settling::suiting::suits_row` meets its contract. The loop's invariant: the first i places are filled in. Assumes nothing.
 use mathlib.Core.Path.{refl, sym, ap, _∙_}
 use mathlib.Core.Bool.{Bool}
 use Prim.Native.Nat.{ℕ, _-_}
 use native.Mathlib.Nat.{add-sub-cancel}
 use native.Mathlib.Omega.{arith}
 use lib.ListN.{getD}
+use borrow.Author.Needs.{needs}
 use Rattle.lists.specs.Lists.{nth}
 use Rattle.sheet.specs.Limits.{mostAgents}
-use Rattle.division.specs.internal.Suiting.{setSuits, suitsRow}
+use Rattle.settling.specs.Suiting.{setSuits, suitsRow}
 use Rattle.lists.proofs.places.Filling.{Filled, fill-next, fill-all}
-use Rattle.division.proofs.suiting.suits_row.Statement.{statement}
-use Rattle.division.proofs.suiting.suits_row.Tie as tie
+use Rattle.settling.proofs.suiting.suits_row.Statement.{statement}
+use Rattle.settling.proofs.suiting.suits_row.Tie as tie
 
 abbrev Inv-loop : tie.InvT-loop
-Inv-loop valuation share terms sets row₀ i₀ row i = Filled (λ c. setSuits valuation share terms (nth 0 sets c)) mostAgents row i
+Inv-loop valuation share agents sets row₀ i₀ row i = Filled (λ c. setSuits agents valuation share (nth 0 sets c)) mostAgents row i
 
 abbrev μ-loop : tie.MeasureT-loop
-μ-loop valuation share terms sets row₀ i₀ row i = mostAgents - i
+μ-loop valuation share agents sets row₀ i₀ row i = mostAgents - i
 
 loop-holds : tie.Need-loop-holds Inv-loop μ-loop
 loop-holds c = record { within = omega arith; places = refl; filled = refl }
@@ -28,7 +29,7 @@ array-read-set-suits : tie.Need-array-read-set-suits Inv-loop μ-loop
 array-read-set-suits c = omega arith
 
 set-suits-requires : tie.Need-set-suits-requires Inv-loop μ-loop
-set-suits-requires c κs = c .before .before .pre
+set-suits-requires c κs = search needs
 
 array-write-row : tie.Need-array-write-row Inv-loop μ-loop
 array-write-row c = omega arith
@@ -43,7 +44,7 @@ loop-again : tie.Need-loop-again Inv-loop μ-loop
 loop-again c =
     let l = c .before .before .loop in
     let a = c .before .before .before .args in
-    let at : ℕ → Bool = λ k. setSuits (a .valuation) (a .share) (a .terms) (getD (a .t4) k 0) in
+    let at : ℕ → Bool = λ k. setSuits (a .agents) (a .valuation) (a .share) (getD (a .t4) k 0) in
     fill-next _ mostAgents (l .row) (l .i) (l .inv) (c .set-suits .result) (c .set-suits .ensures ∙ ap at (sym (add-sub-cancel (l .i) 1))) (omega arith)
 
 returns : tie.Need-returns Inv-loop μ-loop

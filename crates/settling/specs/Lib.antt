@@ -1,0 +1,3 @@
+-- Which bundles suit whom, and what one round settles.
+pub mod Suiting
+pub mod Settling
