@@ -1,6 +1,4 @@
--- Laws of the search for an exact division: parts of a set, what can be kept of a set, the bundles that are handed out, and the answer.
-pub mod sets
-pub mod kept
+-- Laws of the search for an exact division: the bundles that are handed out, and the answer.
 pub mod bundles
 pub mod Searched
 pub mod Outcomes

@@ -23,7 +23,9 @@ use Rattle.exact_search.specs.Outcome.{outcome, Searched}
 use Rattle.exact_search.specs.declared.Answer.the-variants.{None, Found}
 use Rattle.exact_search.specs.declared.Outcome.{Outcome}
 use Rattle.exact_search.specs.internal.Shared.{IsShared}
-use Rattle.exact_search.specs.internal.Serving.{Serves, Ranked, CanRank}
+use Rattle.exact_levels.specs.Serving.{Serves, Ranked}
+use Rattle.exact_levels.specs.Levels.{levelsOf}
+use Rattle.exact_levels.proofs.Levels.{levels-ranked}
 use Rattle.exact_search.specs.internal.Handing.{CanHand, HandedOut}
 use Rattle.exact_search.proofs.bundles.Giving.{exists-serves}
 use Rattle.exact_search.proofs.bundles.Shown.{shown, shown-exact-division, shown-placed}
@@ -50,15 +52,14 @@ module _ (n m : ℕ) (table : List (List ℕ)) where
     answers : (exists : Bool) → exactExists n m table ≡ exists → searching n m table ≡ accepted exists
     answers exists is = searching-within-limits n m table (shared .counts) ∙ ap accepted is
 
-    pub can-rank : CanRank shares n m all
-    can-rank =
-        record {
-          small-shares = shared .small-shares;
-          few = shared .counts .few;
-          all-sets = record { few = few-items; all = omega (arith, all-is, upto, setOf-upTo m) };
-        }
+    module _ (levels : List ℕ) (levels-are : levels ≡ levelsOf table shares (min n mostAgents) (min m mostItems)) where
+      -- the levels tell how many of the agents can be served from each set of the items
+      ranked : Ranked table shares n all levels
+      ranked =
+          let agents : min n mostAgents ≡ n = omega (arith, shared .counts .few) in
+          let items : min m mostItems ≡ m = omega (arith, few-items) in
+          rw (levels-are, agents, items) (levels-ranked table shares n m few-items all (omega (arith, all-is, upto, setOf-upTo m)))
 
-    module _ (levels : List ℕ) (ranked : Ranked table shares n all levels) where
       -- not all agents can be served from all items
       pub searched-none : getD levels all 0 < n → Searched n m table (record { answer = None; bundles = zeros mostAgents })
       searched-none fewer = step (exactExists n m table) refl

@@ -6,7 +6,7 @@ ghost use Rattle.sheet.specs.Answers.{refused};
 ghost use Rattle.exact_search.specs.Outcome.{outcome, Searched};
 ghost use Rattle.exact_search.specs.internal.Shared.{IsShared};
 use crate::handing::hand_out;
-use crate::ranking::rank;
+use exact_levels::rank;
 use shares::share_each;
 use sheet::Sets;
 use sheet::Sheet;
@@ -15,9 +15,7 @@ use sheet::amounts::Amounts;
 use sheet::naming::all_items;
 
 mod handing;
-mod keeping;
 mod parts;
-mod ranking;
 
 // The number of the reason why the table is refused, or whether there is an exact division.
 pub enum Answer {
@@ -48,7 +46,7 @@ fn search(table: Table, agents: usize, items: usize, shares: Amounts) -> Outcome
     ensures { λ r. ⌜ Searched agents items table r ⌝ }
 {
     let all = all_items(items);
-    let levels = rank(table, shares, agents, items, all);
+    let levels = rank(table, shares, agents, items);
     if (levels[all as usize] as usize) < agents {
         return Outcome {
             answer: Answer::None,

@@ -1,13 +1,7 @@
-// Sets of the items of a sheet, and parts of a set.
+// Parts of a set.
 ghost use mathlib.Core.Path.{_≡_};
-ghost use Rattle.exact_search.specs.internal.Parts.{isPart};
+ghost use Rattle.exact_levels.specs.Parts.{isPart};
 use sheet::Sheet;
-
-// The number of sets of the items of a sheet.
-pub(crate) const SETS: usize = 1 << Sheet::ITEMS;
-
-// For each set of items, how many of the first agents can be served from it.
-pub(crate) type Levels = [u8; SETS];
 
 // Whether the second set names all items of the first.
 pub(crate) fn is_part(part: u16, set: u16) -> bool

@@ -27,9 +27,9 @@ use Rattle.bundling.specs.Bundles.{itemsIn, bundle}
 use Rattle.bundling.proofs.Bundles.{itemsIn-sublist}
 use Rattle.exact_division.specs.Exact.{hasShare, isExact, bundlesBy, exactExists}
 use Rattle.exact_division.proofs.Existence.{exists-giving}
-use Rattle.exact_search.specs.internal.Serving.{Serves}
-use Rattle.exact_search.proofs.sets.Bits.{setOf-sum}
-use Rattle.exact_search.proofs.sets.Parts.{some-part}
+use Rattle.exact_levels.specs.Serving.{Serves}
+use Rattle.exact_levels.proofs.sets.Bits.{setOf-sum}
+use Rattle.exact_levels.proofs.sets.Parts.{some-part}
 
 -- the items of bundles that pass one test are some of those of bundles that pass a weaker one
 itemsIn-weaker : (t u : ℕ → Bool) → ((c : ℕ) → t c ≡ true → u c ≡ true) → (ks l : List ℕ) → Sublist (itemsIn t ks l) (itemsIn u ks l)

@@ -14,11 +14,11 @@ use Rattle.lists.proofs.places.Zeros.{getD-zeros}
 use Rattle.sheet.specs.Limits.{mostAgents, mostItems}
 use Rattle.sheet.specs.Sets.{itemsOf}
 use Rattle.sheet.specs.Valuations.{value}
-use Rattle.exact_search.specs.internal.Parts.{IsPart}
-use Rattle.exact_search.specs.internal.Serving.{Leaves, Serves}
+use Rattle.exact_levels.specs.Parts.{IsPart}
+use Rattle.exact_levels.specs.Serving.{Leaves, Serves}
 use Rattle.exact_search.specs.internal.Handing.{HandedOut}
-use Rattle.exact_search.proofs.sets.Parts.{part-refl, part-trans, Split, split}
-use Rattle.exact_search.proofs.sets.Values.{value-split}
+use Rattle.exact_levels.proofs.sets.Parts.{part-refl, part-trans, Split, split}
+use Rattle.exact_levels.proofs.sets.Values.{value-split}
 
 -- the weight of no item
 pub weight-none : (w : ℕ → ℕ) → sumOver w (itemsOf 0) ≡ 0

@@ -12,10 +12,10 @@ use borrow.Author.Tests.{leb-true, le-leb}
 use Rattle.sheet.specs.Limits.{mostItems}
 use Rattle.sheet.specs.Sets.{itemsOf}
 use Rattle.sheet.specs.Valuations.{value}
-use Rattle.exact_search.specs.internal.Parts.{isPart}
-use Rattle.exact_search.specs.internal.Serving.{Leaves, Serves, Ranked}
+use Rattle.exact_levels.specs.Parts.{isPart}
+use Rattle.exact_levels.specs.Serving.{Leaves, Serves, Ranked}
 use Rattle.exact_search.specs.internal.Handing.{mayLeave, FirstLeft}
-use Rattle.exact_search.proofs.sets.Named.{part-isPart, isPart-part}
+use Rattle.exact_levels.proofs.sets.Named.{part-isPart, isPart-part}
 
 module _ (table : List (List ℕ)) (shares : List ℕ) (agents all : ℕ) (levels : List ℕ) (small : all < 2 ^ mostItems) (ranked : Ranked table shares agents all levels)
     (i set : ℕ) (more : i < agents) (upto : set ≤ all) where

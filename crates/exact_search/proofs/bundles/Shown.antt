@@ -27,7 +27,7 @@ use Rattle.sheet.proofs.sets.Items.{setOf-items}
 use Rattle.sheet.proofs.sets.Bundles.{nth-items}
 use Rattle.shares.specs.Shares.{shareOf}
 use Rattle.exact_division.specs.Exact.{hasShare, isExact, ExactDivision}
-use Rattle.exact_search.specs.internal.Parts.{IsPart}
+use Rattle.exact_levels.specs.Parts.{IsPart}
 use Rattle.exact_search.specs.internal.Handing.{HandedOut}
 use Rattle.exact_search.proofs.bundles.Handing.{weight-none}
 

@@ -27,7 +27,6 @@ search-requires c κs =
     record {
       counts = answered-shared (a .agents) (a .items) (a .table) (sym (ap (λ o. o .answer) (own .ensures .0)) ∙ c .before .enum-told .given .1);
       own-shares = ap (λ o. o .shares) (own .ensures .0);
-      small-shares = own .ensures .1;
     }
 
 returns : tie.Need-returns

@@ -1,6 +1,6 @@
 -- `search` meets its contract. Assumes nothing.
 use borrow.Author.Needs.{needs}
-use Rattle.exact_search.proofs.Searched.{small, can-rank, searched-none, can-hand, searched-found}
+use Rattle.exact_search.proofs.Searched.{small, searched-none, can-hand, searched-found}
 use Rattle.exact_search.proofs.search.Statement.{statement}
 use Rattle.exact_search.proofs.search.Tie as tie
 
@@ -8,7 +8,7 @@ all-items-requires : tie.Need-all-items-requires
 all-items-requires c κs = search needs
 
 rank-requires : tie.Need-rank-requires
-rank-requires c κs = let a = c .before .args in can-rank (a .agents) (a .items) (a .table) (a .shares) (c .before .pre) (c .all-items .result) (c .all-items .ensures)
+rank-requires c κs = search needs
 
 cast-if1 : tie.Need-cast-if1
 cast-if1 c = search needs

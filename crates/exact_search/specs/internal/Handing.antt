@@ -10,8 +10,8 @@ use Rattle.lists.specs.Sums.{total, sumOver}
 use Rattle.sheet.specs.Limits.{mostAgents, mostItems}
 use Rattle.sheet.specs.Sets.{itemsOf}
 use Rattle.sheet.specs.Valuations.{value}
-use Rattle.exact_search.specs.internal.Parts.{IsPart, isPart}
-use Rattle.exact_search.specs.internal.Serving.{Serves, Ranked}
+use Rattle.exact_levels.specs.Parts.{IsPart, isPart}
+use Rattle.exact_levels.specs.Serving.{Serves, Ranked}
 
 -- whether an agent may leave a part of a set to those before it: they can be served from it, and the rest is worth its share
 unfoldable pub mayLeave : List ℕ → ℕ → ℕ → ℕ → ℕ → ℕ → Bool

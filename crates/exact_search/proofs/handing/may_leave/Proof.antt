@@ -4,7 +4,7 @@ use mathlib.Core.Bool.{true, false}
 use lib.Dec.{leb}
 use borrow.Author.Needs.{needs}
 use borrow.Author.Tests.{le-leb, lt-leb, not-true, not-false}
-use Rattle.exact_search.specs.internal.Parts.{isPart}
+use Rattle.exact_levels.specs.Parts.{isPart}
 use Rattle.exact_search.specs.internal.Handing.{mayLeave}
 use Rattle.exact_search.proofs.handing.may_leave.Statement.{statement}
 use Rattle.exact_search.proofs.handing.may_leave.Tie as tie

@@ -8,8 +8,8 @@ use Rattle.lists.specs.Lists.{range, all}
 use Rattle.lists.proofs.members.Tests.{all-next, all-fails}
 use Rattle.sheet.specs.Limits.{setBits}
 use Rattle.sheet.proofs.sets.Sets.{halved}
-use Rattle.exact_search.specs.internal.Parts.{isPart}
-use Rattle.exact_search.proofs.sets.Named.{namedIn, named-next, named-fails}
+use Rattle.exact_levels.specs.Parts.{isPart}
+use Rattle.exact_levels.proofs.sets.Named.{namedIn, named-next, named-fails}
 use Rattle.exact_search.proofs.parts.is_part.Statement.{statement}
 use Rattle.exact_search.proofs.parts.is_part.Tie as tie
 
