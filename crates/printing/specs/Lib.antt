@@ -1,4 +1,3 @@
--- What printing a division writes and answers. `internal` has what the contracts of private functions cite.
+-- What printing a division writes and answers.
 pub mod Printed
 pub mod Printing
-pub mod internal

@@ -7,17 +7,14 @@ ghost use Rattle.sheet.specs.Answers.{after};
 ghost use Rattle.writing.specs.Answered.{answered};
 ghost use Rattle.writing.specs.Filled.{filling, filled};
 ghost use Rattle.printing.specs.Printing.{longestPrinted, printing};
-ghost use Rattle.printing.specs.internal.OutcomeText.{outcomeText};
-use crate::lines::put_division;
+ghost use Rattle.printed_division.specs.OutcomeText.{outcomeText};
 use division::Outcome;
 use division::divide;
+use printed_division::put_division;
 use sheet::Sheet;
 use sheet::Table;
 use writing::Answer;
 use writing::fill;
-
-mod cutters;
-mod lines;
 
 // The most bytes of the head.
 const LONGEST_HEAD: usize = 43;

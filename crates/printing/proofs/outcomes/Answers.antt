@@ -14,7 +14,7 @@ use Rattle.division.specs.Outcome.{outcome}
 use Rattle.division.specs.declared.Answer.the-variants.{Refused, Divided}
 use Rattle.printing.specs.Printed.{printed}
 use Rattle.printing.specs.Printing.{longestPrinted, printing}
-use Rattle.printing.specs.internal.OutcomeText.{outcomeText}
+use Rattle.printed_division.specs.OutcomeText.{outcomeText}
 use Rattle.printing.proofs.printed.Printable.{divisionByRounds-printable}
 use Rattle.printing.proofs.printed.Longest.{divisionByRounds-length}
 use Rattle.printing.proofs.outcomes.Texts.{outcomeText-divided}

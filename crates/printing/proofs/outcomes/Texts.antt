@@ -1,17 +1,15 @@
--- The text of an outcome: its lines by the places of the arrays; for the outcome of a division it is the division's printed text.
--- Assumes nothing.
+-- The text of the outcome of a division is the division's printed text. Assumes nothing.
 use mathlib.Core.Path.{_≡_, ap, _∙_}
 use mathlib.Core.List.{List, [], _++_, map, List·Memᴰ as Mem}
 use mathlib.Core.List.{Sublistᴰ·trans as sublist-trans}
-use Prim.Native.Nat.{ℕ, _+_, _-_, _≤_}
+use Prim.Native.Nat.{ℕ, _-_, _≤_}
 use native.Mathlib.Omega.{arith}
 use lib.Dec.{eqb}
-use lib.ListN.{length, getD, length-map, List·getD-map}
+use lib.ListN.{length, length-map, List·getD-map}
 use Rattle.lists.specs.Lists.{range, nth, zeros, padded}
 use Rattle.lists.proofs.ranges.Ranges.{range-bounds, length-range, range-sublist}
 use Rattle.lists.proofs.places.Padding.{nth-padded}
 use Rattle.lists.proofs.members.FlatMap.{flatMap-cong}
-use Rattle.lists.proofs.places.Places.{nth-next}
 use Rattle.lists.proofs.places.Defaults.{getD-default}
 use Rattle.text.specs.Bytes.{bytes}
 use Rattle.writing.specs.Fields.{group}
@@ -21,19 +19,13 @@ use Rattle.sheet.specs.Sets.{itemsOf, setOf}
 use Rattle.sheet.proofs.sets.Bundles.{nth-set-items}
 use Rattle.cut.specs.Outcome.{placed}
 use Rattle.rounds.specs.Division.{Division}
-use Rattle.shares.specs.declared.Cut.{Cut}
 use Rattle.shares.specs.Outcome.{cutOf, blankCut}
 use Rattle.division.specs.Outcome.{outcome}
 use Rattle.bundling.proofs.Bundles.{itemsIn-append}
 use Rattle.printing.specs.Printed.{cutBundle, cutGroup, yardLine, allLines, agentLine, printed}
-use Rattle.printing.specs.internal.OutcomeText.{noCut, outcomeLine, outcomeText}
+use Rattle.printed_division.specs.OutcomeText.{noCut, outcomeLine, outcomeText}
 use Rattle.printing.proofs.printed.Printable.{Printable}
-use Rattle.printing.proofs.outcomes.Cutters.{beforeZero-padded}
-
--- the line of agent i + 1 is made of what stands at place i
-pub outcomeLine-next : (n m : ℕ) (table : List (List ℕ)) (bundles shares : List ℕ) (cuts : List Cut) (i : ℕ)
-    → outcomeLine n m table bundles shares cuts (i + 1) ≡ yardLine n m (i + 1) (getD table i []) (itemsOf (getD bundles i 0)) (getD shares i 0) (getD cuts i noCut .partition)
-outcomeLine-next n m table bundles shares cuts i = rw (nth-next [] table i, nth-next 0 bundles i, nth-next 0 shares i, nth-next noCut cuts i)
+use Rattle.printed_lines.proofs.BeforeZero.{beforeZero-padded}
 
 -- zeros behind a partition are left out
 cutGroup-padded : (n m : ℕ) (partition : List ℕ) → length partition ≡ m → cutGroup n m (placed partition) ≡ cutGroup n m partition

@@ -1,14 +1,15 @@
 -- `print_outcome` meets its contract. Assumes nothing.
-use mathlib.Core.Path.{sym}
+use mathlib.Core.Path.{_≡_, sym}
 use mathlib.Core.List.{List}
-use Prim.Native.Nat.{ℕ, _≤_}
+use Prim.Native.Nat.{ℕ, _≤_, min}
 use native.Mathlib.Omega.{arith}
 use lib.ListN.{length, length-append}
 use lib.Seq.{length-take-le}
 use Rattle.lists.specs.Lists.{zeros}
+use Rattle.sheet.specs.Limits.{mostAgents, mostItems}
 use Rattle.writing.proofs.Filled.{WholeAtFront, written-whole}
 use Rattle.printing.specs.Printing.{longestPrinted}
-use Rattle.printing.specs.internal.OutcomeText.{outcomeText}
+use Rattle.printed_division.specs.OutcomeText.{outcomeText}
 use borrow.Author.Needs.{needs}
 use Rattle.printing.proofs.print_outcome.Statement.{statement}
 use Rattle.printing.proofs.print_outcome.Tie as tie
@@ -19,7 +20,11 @@ textOf s = let a = s .args in outcomeText (a .agents) (a .items) (a .table) (a .
 
 -- it stands whole at the front of the local array
 whole : (c : tie.After-put-division) → WholeAtFront (zeros longestPrinted) (textOf (c .before .before .before)) (c .put-division .last .0) (c .put-division .result)
-whole c = written-whole (c .put-division .ensures) (omega arith)
+whole c =
+    let a = c .before .before .before .args in
+    let few : min (a .agents) mostAgents ≡ a .agents = omega arith in
+    let few-items : min (a .items) mostItems ≡ a .items = omega arith in
+    written-whole (rw (few, few-items) at (c .put-division .ensures)) (omega arith)
 
 within : (c : tie.After-put-division) → c .put-division .result ≤ length (c .put-division .last .0)
 within c = let w = whole c in rw (w .bytes-of, w .reached, length-append) (omega arith)

@@ -1,0 +1,2 @@
+-- The text of a division as the code has it.
+pub mod OutcomeText

@@ -1,0 +1,2 @@
+-- Laws of the cutters that a line lists.
+pub mod BeforeZero
