@@ -6,7 +6,8 @@ use Prim.Native.Nat.{ℕ}
 use lib.ListN.{length}
 use Rattle.sheet.specs.Answers.{Answer, refused, accepted, numberOf, after}
 use Rattle.writing.specs.declared.Answer as declared
-use Rattle.writing.proofs.Lent.{lent-refused, lent-written}
+use Rattle.reply.specs.Stored.{numberAnswered, lengthAnswered}
+use Rattle.reply.proofs.Stored.{told}
 use Rattle.exact_division.specs.Search.{searching}
 use Rattle.exact_search.specs.Outcome.{Searched}
 use Rattle.exact_search.specs.declared.Answer.the-variants.{Refused, None, Found}
@@ -41,15 +42,9 @@ module _ {n m : ℕ} {table : List (List ℕ)} {o : Outcome} (s : Searched n m t
   pub found-stored : o .answer ≡ Found → TableStored n m table oldFound oldBundles 0 1 (o .bundles)
   found-stored e = stored-of (accepted true) (found-answered s e) refl (found-sets s e)
 
-module _ {text old new : List ℕ} {r : declared.Answer} (s : Shown text old r new) {oldLength : ℕ} where
-  -- a refusal answers its number, and the length keeps its content
-  pub refusal-text-stored : (number : ℕ) → r ≡ declared.the-variants.Refused number → TextStored text old oldLength number new oldLength
-  refusal-text-stored number e =
-      let told = lent-refused (exactFrom text (s .bundles) (length old)) number oldLength (sym (s .answer) ∙ e) in
-      record { bundles = s .bundles; may-show = s .may-show; answered = told .0; buffer = s .buffer; length-stored = told .1 }
-
-  -- a text answers 0, and its length is stored
-  pub written-text-stored : (written : ℕ) → r ≡ declared.the-variants.Written written → TextStored text old oldLength 0 new written
-  written-text-stored written e =
-      let told = lent-written (exactFrom text (s .bundles) (length old)) written oldLength (sym (s .answer) ∙ e) in
-      record { bundles = s .bundles; may-show = s .may-show; answered = told .0; buffer = s .buffer; length-stored = told .1 }
+-- the number of the code's answer is returned, and the length of its text is stored
+pub text-stored : {text old new : List ℕ} {answer : declared.Answer} {oldLength number newLength : ℕ} → Shown text old answer new → number ≡ numberAnswered answer
+    → newLength ≡ lengthAnswered answer oldLength → TextStored text old oldLength number new newLength
+text-stored {text} {old} {oldLength = oldLength} s number stored =
+    let both = told (exactFrom text (s .bundles) (length old)) oldLength (s .answer) number stored in
+    record { bundles = s .bundles; may-show = s .may-show; answered = both .0; buffer = s .buffer; length-stored = both .1 }

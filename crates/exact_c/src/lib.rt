@@ -41,11 +41,5 @@ pub extern "C" fn exact_text(text: &[u8], buffer: &mut [u8], length: &mut usize)
     ensures { λ r. ⌜ TextStored (now (text .entry)) (now (buffer .entry)) (now (length .entry)) r (now (buffer .exit)) (now (length .exit)) ⌝ }
 {
     let answer = sheet_to_exact::show_exact(text, buffer);
-    match answer {
-        writing::Answer::Refused(number) => number,
-        writing::Answer::Written(written) => {
-            *length = written;
-            0
-        }
-    }
+    reply::store_length(answer, length)
 }

@@ -5,7 +5,6 @@ ghost use Rattle.sheet.specs.Answers.{numberOf, after};
 ghost use Rattle.writing.specs.Answered.{lengthStored};
 ghost use Rattle.writing.specs.Filled.{filled};
 ghost use Rattle.sheet_to_judgement.specs.TextJudged.{judgementFrom};
-use writing::Answer;
 
 // Prints the judgement of the division that stands behind the sheet of `text` into the lent buffer, stores the length printed and answers 0;
 // or answers the number of the refusal and leaves the buffer and the length as they are.
@@ -16,11 +15,5 @@ pub extern "C" fn judge_text(text: &[u8], buffer: &mut [u8], length: &mut usize)
     ensures length { λ _. ⌜ now (length .exit) ≡ after lengthStored (judgementFrom (now (text .entry)) (ListN.length (now (buffer .entry)))) (now (length .entry)) ⌝ }
 {
     let answer = sheet_to_judgement::judge_division(text, buffer);
-    match answer {
-        Answer::Refused(number) => number,
-        Answer::Written(written) => {
-            *length = written;
-            0
-        }
-    }
+    reply::store_length(answer, length)
 }

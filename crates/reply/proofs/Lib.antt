@@ -1,2 +1,3 @@
--- Laws of what a program writes for an answer.
+-- Laws of what a program writes for an answer, and of what a caller by C's calling convention is told.
 pub mod Replied
+pub mod Stored

@@ -1,2 +1,3 @@
--- What a program writes for an answer.
+-- What a program writes for an answer, and what a caller by C's calling convention is told.
 pub mod Replies
+pub mod Stored

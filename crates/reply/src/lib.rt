@@ -1,7 +1,8 @@
-// What becomes of an answer: the text that a program writes.
+// What becomes of an answer: the text that a program writes, and what a caller by C's calling convention is told.
 ghost use mathlib.Core.Path.{_≡_};
 ghost use Rattle.writing.specs.Output.{output, Written};
 ghost use Rattle.reply.specs.Replies.{refusalLine, replyInto, Front};
+ghost use Rattle.reply.specs.Stored.{numberAnswered, lengthAnswered};
 use sheet::lesser;
 use writing::Answer;
 
@@ -22,5 +23,20 @@ pub fn reply(answer: Answer, buffer: &mut [u8]) -> usize
     match answer {
         Answer::Refused(number) => put_refusal(buffer, number),
         Answer::Written(length) => lesser(length, buffer.len()),
+    }
+}
+
+// What a caller by C's calling convention is told: stores the length of a text and returns 0, or returns the number of the refusal and
+// leaves the length as it is.
+pub fn store_length(answer: Answer, length: &mut usize) -> u8
+    ensures number { λ r. ⌜ r ≡ numberAnswered answer ⌝ }
+    ensures length { λ _. ⌜ now (length .exit) ≡ lengthAnswered answer (now (length .entry)) ⌝ }
+{
+    match answer {
+        Answer::Refused(number) => number,
+        Answer::Written(written) => {
+            *length = written;
+            0
+        }
     }
 }

@@ -5,7 +5,6 @@ ghost use Rattle.sheet.specs.Answers.{numberOf, after};
 ghost use Rattle.writing.specs.Answered.{lengthStored};
 ghost use Rattle.writing.specs.Filled.{filled};
 ghost use Rattle.sheet_to_division.specs.ShareOut.{shareOut};
-use writing::Answer;
 
 // Prints the division of the sheet that `text` holds, with an allowance for cutting, into the lent buffer, stores the length printed and
 // answers 0; or answers the number of the refusal and leaves the buffer and the length as they are.
@@ -21,11 +20,5 @@ pub extern "C" fn shareout_text(
     ensures length { λ _. ⌜ now (length .exit) ≡ after lengthStored (shareOut (now (text .entry)) allowance (ListN.length (now (buffer .entry)))) (now (length .entry)) ⌝ }
 {
     let answer = sheet_to_division::share_out(text, allowance, buffer);
-    match answer {
-        Answer::Refused(number) => number,
-        Answer::Written(written) => {
-            *length = written;
-            0
-        }
-    }
+    reply::store_length(answer, length)
 }

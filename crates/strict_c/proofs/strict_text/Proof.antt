@@ -1,7 +1,6 @@
--- `strict_c::strict_text` meets its contract, by what `write_strict` ensures and the case of its answer. Assumes nothing.
-use mathlib.Core.Path.{sym, _∙_}
+-- `strict_c::strict_text` meets its contract, by what `write_strict` and `store_length` ensure. Assumes nothing.
 use lib.ListN.{length}
-use Rattle.writing.proofs.Lent.{lent-refused, lent-written}
+use Rattle.reply.proofs.Stored.{told}
 use Rattle.sheet_to_strict.specs.Rewriting.{rewriting}
 use borrow.Author.Needs.{needs}
 use Rattle.strict_c.proofs.strict_text.Statement.{statement}
@@ -10,42 +9,18 @@ use Rattle.strict_c.proofs.strict_text.Tie as tie
 write-strict-requires : tie.Need-write-strict-requires
 write-strict-requires c κs = search needs
 
-enum-known-answer : tie.Need-enum-known-answer
-enum-known-answer c = search needs
-
-enum-known-answer-2 : tie.Need-enum-known-answer-2
-enum-known-answer-2 c = search needs
+store-length-requires : tie.Need-store-length-requires
+store-length-requires c κs = search needs
 
 same-length : tie.Need-same-length
 same-length c = search needs
 
 returns : tie.Need-returns
 returns c =
-    let at-answer = c .before in
-    let at-call = at-answer .before .before .before .before in
+    let at-call = c .before .before .before .before in
     let a = at-call .before .before .before .before .args in
-    let told = lent-refused (rewriting (a .text .now) (length (a .buffer .now))) (at-answer .answer .given .0 .0) (a .length .now) (sym (at-call .write-strict .ensures .0) ∙ at-answer .answer .given .1) in
-    (told .0, (at-call .write-strict .ensures .1, told .1))
-
-same-length-2 : tie.Need-same-length-2
-same-length-2 c = search needs
-
-returns-2 : tie.Need-returns-2
-returns-2 c =
-    let at-answer = c .before in
-    let at-call = at-answer .before .before .before .before in
-    let a = at-call .before .before .before .before .args in
-    let told = lent-written (rewriting (a .text .now) (length (a .buffer .now))) (at-answer .answer2 .given .0 .0) (a .length .now) (sym (at-call .write-strict .ensures .0) ∙ at-answer .answer2 .given .1) in
-    (told .0, (at-call .write-strict .ensures .1, told .1))
+    let both = told (rewriting (a .text .now) (length (a .buffer .now))) (a .length .now) (at-call .write-strict .ensures .0) (c .store-length .ensures .0) (c .store-length .ensures .1) in
+    (both .0, (at-call .write-strict .ensures .1, both .1))
 
 pub strict-text-spec : {M : Type 1} → statement M
-strict-text-spec =
-    tie.close
-    (tie.spec
-    write-strict-requires
-    enum-known-answer
-    enum-known-answer-2
-    same-length
-    returns
-    same-length-2
-    returns-2)
+strict-text-spec = tie.close (tie.spec write-strict-requires store-length-requires same-length returns)
