@@ -1,5 +1,5 @@
 -- How what a walk found is answered. Assumes nothing.
-use mathlib.Core.Path.{_≡_, ap, ap₂}
+use mathlib.Core.Path.{_≡_, ap₂}
 use mathlib.Core.List.{List}
 use Prim.Native.Nat.{ℕ, _-_, _≤_, _<_}
 use native.Mathlib.Nat.{add-sub-cancel}
@@ -25,12 +25,12 @@ module _ (n : ℕ) (values : List ℕ) (allowance : ℕ) where
       let used : allowance - (allowance - growths n (length values)) ≡ allowance = omega arith in
       ap₂ {C = Outcome} (λ least count. record { answer = Stopped least; partition = placed (bestPartition n values allowance); count = count }) (add-sub-cancel (bestLeast n values allowance) 1) used
 
-  -- a share and the search for its partition
-  abbrev pub answeredShare : ℕ → Search → Outcome
-  answeredShare share s = record { answer = Share share; partition = s .best .partition; count = allowance - s .allowance }
+  -- a search that its allowance was enough for
+  abbrev pub answeredShare : Search → Outcome
+  answeredShare s = record { answer = Share (s .best .goal - 1); partition = s .best .partition; count = allowance - s .allowance }
 
-  pub answered-share : growths n (length values) ≤ allowance → answeredShare (maximinShare n values) (foundWith n values allowance (maximinShare n values) (maximinPartition n values))
+  pub answered-share : growths n (length values) ≤ allowance → answeredShare (foundWith n values allowance (maximinShare n values) (maximinPartition n values))
       ≡ outcome (accepted (wholeCut n values))
   answered-share enough =
       let used : allowance - (allowance - growths n (length values)) ≡ growths n (length values) = omega arith in
-      ap {B = Outcome} (λ count. record { answer = Share (maximinShare n values); partition = placed (maximinPartition n values); count = count }) used
+      ap₂ {C = Outcome} (λ share count. record { answer = Share share; partition = placed (maximinPartition n values); count = count }) (add-sub-cancel (maximinShare n values) 1) used

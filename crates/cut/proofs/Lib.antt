@@ -5,4 +5,5 @@ pub mod Allowance
 pub mod Samples
 mod One
 mod Whole
+mod ShareFirst
 mod Answered

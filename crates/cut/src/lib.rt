@@ -4,22 +4,25 @@
 // the share first, which does not depend on the order of the values, and then looks for the first partition that reaches it.
 ghost use mathlib.Core.Path.{_≡_};
 ghost use Prim.Native.Nat.{_≤_, _<_};
+ghost use lib.Dec.{leb};
 ghost use lib.ListN.{length, replicate};
 ghost use Rattle.lists.specs.Sums.{total};
-ghost use Rattle.sheet.specs.Limits.{mostItems, greatestSum};
+ghost use Rattle.sheet.specs.Limits.{mostAgents, mostItems, greatestSum};
 ghost use Rattle.sheet.specs.Answers.{refused, accepted};
 ghost use Rattle.growth.specs.Growth.{growths};
 ghost use Rattle.cut.specs.Outcome.{placed, outcome, wholeCut, stoppedCut, found, cutting};
 ghost use Rattle.cut.specs.internal.Allowed.{Allowed};
+use crate::sharing::deal;
 use crate::sharing::mean;
-use crate::sharing::share_of;
 use crate::sorting::falling;
+use growth::MOST;
 use growth::count;
 use sheet::Row;
 use sheet::Sheet;
 use sheet::is_within;
 use sheet::valuing::values_of;
 use walking::find;
+use walking::find_after;
 
 mod sharing;
 mod sorting;
@@ -77,13 +80,14 @@ fn cut_by_share(values: &[u64], bundles: usize, allowance: u32) -> Outcome
     ensures { λ r. ⌜ r ≡ outcome (accepted (wholeCut bundles (now (values .entry)))) ⌝ }
 {
     let sorted = falling(values);
-    let in_falling_order = &sorted[..values.len()];
-    let share = share_of(in_falling_order, bundles, allowance);
-    let end = find(values, bundles, share, share, allowance);
+    let ordered = &sorted[..values.len()];
+    let ceiling = mean(values, bundles);
+    let goal = deal(ordered, bundles) + 1;
+    let end = find_after(ordered, values, bundles, ceiling, goal, allowance);
     let best = end.best;
     let partition = best.partition;
     Outcome {
-        answer: Answer::Share(share),
+        answer: Answer::Share(best.goal - 1),
         partition,
         count: allowance - end.allowance,
     }
@@ -115,6 +119,17 @@ fn cut_in_one(values: &[u64]) -> Outcome
     }
 }
 
+// Whether the allowance is enough for all growth partitions. The most that a cut has are enough without a count.
+fn is_enough(allowance: u32, items: usize, bundles: usize) -> bool
+    requires { ⌜ (1 ≤ bundles) × (bundles ≤ mostAgents) × (items ≤ mostItems) ⌝ }
+    ensures { λ r. ⌜ r ≡ leb (growths bundles items) allowance ⌝ }
+{
+    if MOST <= allowance {
+        return true;
+    }
+    count(items, bundles) <= allowance
+}
+
 // The cut of the values in `bundles` bundles, as far as the allowance goes.
 fn cut_values(values: &[u64], bundles: usize, allowance: u32) -> Outcome
     requires { ⌜ Allowed (now values) bundles allowance ⌝ }
@@ -123,10 +138,10 @@ fn cut_values(values: &[u64], bundles: usize, allowance: u32) -> Outcome
     if bundles == 1 {
         return cut_in_one(values);
     }
-    if allowance < count(values.len(), bundles) {
-        return cut_stopped(values, bundles, allowance);
+    if is_enough(allowance, values.len(), bundles) {
+        return cut_by_share(values, bundles, allowance);
     }
-    cut_by_share(values, bundles, allowance)
+    cut_stopped(values, bundles, allowance)
 }
 
 // The share of the items of `set` in `bundles` bundles, by the values of `valuation`, and the first partition in dictionary order

@@ -34,14 +34,14 @@ fn first_row(bundles: usize) -> CountRow
     row
 }
 
-// The row for one item more: it goes to one of the bundles in use, or to the next new one.
-fn next_row(row: CountRow, bundles: usize) -> CountRow
-    requires { ⌜ (bundles ≤ mostAgents) × NextFits bundles row ⌝ }
-    ensures { λ r. ⌜ r ≡ nextRow bundles row ⌝ }
+// The row for one item more: it goes to one of the bundles in use, or to the next new one. Places above the number of bundles stay 0.
+fn next_row(row: CountRow) -> CountRow
+    requires { ⌜ NextFits row ⌝ }
+    ensures { λ r. ⌜ r ≡ nextRow row ⌝ }
 {
     let mut next = [0u32; USED];
     let mut used: usize = 0;
-    while used <= bundles {
+    while used <= Sheet::AGENTS {
         next[used] = used as u32 * row[used] + row[used + 1];
         used += 1;
     }
@@ -55,11 +55,14 @@ pub fn counts_for(items: usize, bundles: usize) -> Counts
     let last = lesser(items, Sheet::ITEMS);
     let most = lesser(bundles, Sheet::AGENTS);
     let mut counts = [[0u32; USED]; Sheet::ITEMS + 1];
-    counts[0] = first_row(most);
+    let first = first_row(most);
+    counts[0] = first;
+    let mut row = first;
     let mut left: usize = 0;
     while left < last {
-        let row = counts[left];
-        counts[left + 1] = next_row(row, most);
+        let next = next_row(row);
+        counts[left + 1] = next;
+        row = next;
         left += 1;
     }
     counts
@@ -69,7 +72,12 @@ pub fn counts_for(items: usize, bundles: usize) -> Counts
 pub fn count(items: usize, bundles: usize) -> u32
     ensures { λ r. ⌜ r ≡ growths (min bundles mostAgents) (min items mostItems) ⌝ }
 {
-    let counts = counts_for(items, bundles);
-    let row = counts[lesser(items, Sheet::ITEMS)];
+    let last = lesser(items, Sheet::ITEMS);
+    let mut row = first_row(lesser(bundles, Sheet::AGENTS));
+    let mut laid: usize = 0;
+    while laid < last {
+        row = next_row(row);
+        laid += 1;
+    }
     row[0]
 }

@@ -5,18 +5,18 @@ use mathlib.Core.Bool.{Bool, true, cond}
 use mathlib.Core.List.{List, [], _∷_}
 use Prim.Native.Nat.{ℕ, zero, suc, _+_, _-_, _/_, _<_, min, max}
 use lib.Dec.{ltb}
-use lib.ListN.{length, getD, drop}
+use lib.ListN.{length, getD, take, drop}
 use Rattle.lists.specs.Lists.{range, any}
 use Rattle.lists.specs.Sums.{sumOver, sumOf}
-use Rattle.sheet.specs.Limits.{greatestSum}
+use Rattle.sheet.specs.Limits.{mostItems, greatestSum}
 
 -- what the values can give, each counted up to a threshold
 abbrev pub supply : ℕ → List ℕ → ℕ
 supply most values = sumOver (λ v. min v most) values
 
--- the same as it is counted: what is above the sums of a sheet counts as one more than the greatest of them
+-- the same as it is counted: of as many values as a sheet may have items, and up to one above the greatest sum of a sheet
 abbrev pub countedSupply : ℕ → List ℕ → ℕ
-countedSupply most values = min (supply most values) (greatestSum + 1)
+countedSupply most values = supply (min most (greatestSum + 1)) (take mostItems values)
 
 -- what the loads of the bundles 1 .. n lack of the goal, each lack counted up to a threshold
 abbrev pub demand : ℕ → (ℕ → ℕ) → ℕ → ℕ → ℕ

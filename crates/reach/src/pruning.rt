@@ -23,16 +23,16 @@ fn at_least_one(n: u64) -> u64
     if n < 1 { 1 } else { n }
 }
 
-// The sum of the values, each counted up to `most`; a sum above those of a sheet counts as one more than the greatest of them.
+// The sum of the values, each counted up to `most`. Their number is cut to the items of a sheet, and `most` to one above its greatest sum.
 pub fn supplied(values: &[u64], most: u64) -> u64
     ensures { λ r. ⌜ r ≡ countedSupply most (now (values .entry)) ⌝ }
 {
+    let last = sheet::lesser(values.len(), Sheet::ITEMS);
+    let threshold = lesser(most, Sheet::GREATEST_SUM + 1);
     let mut sum: u64 = 0;
     let mut i: usize = 0;
-    while i < values.len() {
-        let room = Sheet::GREATEST_SUM + 1 - sum;
-        let value = lesser(values[i], most);
-        sum += lesser(value, room);
+    while i < last {
+        sum += lesser(values[i], threshold);
         i += 1;
     }
     sum

@@ -11,7 +11,7 @@ use lib.ListN.{length, getD, set, length-set}
 use lib.Seq.{sets, getD-set-same, getD-set-other}
 use Rattle.lists.specs.Lists.{range}
 use Rattle.lists.specs.Sums.{leastOf, total}
-use Rattle.sheet.specs.Limits.{greatestSum}
+use Rattle.sheet.specs.Limits.{mostItems, greatestSum}
 use Rattle.lists.specs.Dictionary.{branches}
 use Rattle.lists.proofs.Cases.{eq-or-ne}
 use Rattle.lists.proofs.places.Passing.{range-next}
@@ -44,11 +44,11 @@ module _ (bundles at used : ℕ) (loads partition : List ℕ) (ceiling : ℕ) (s
     walked-below = searched-idle (reached ceiling bundles loads values) (sets partition at) search (growthFrom bundles used (length values))
 
     -- a goal that is out of reach
-    pub walked-out-of-reach : (most : ℕ) → total values ≤ greatestSum → greatestValue values ≤ most
+    pub walked-out-of-reach : (most : ℕ) → length values ≤ mostItems → total values ≤ greatestSum → greatestValue values ≤ most
         → isOutOfReach ceiling (search .best .goal) (loadOf loads) bundles values most ≡ true
         → walked values bundles at used loads partition ceiling search ≡ passing (length (growthFrom bundles used (length values))) search
-    walked-out-of-reach most small greatest out =
-        walked-below (λ l m. isOutOfReach-below-goal (search .best .goal) (loadOf loads) bundles values l ceiling most small greatest out)
+    walked-out-of-reach most few small greatest out =
+        walked-below (λ l m. isOutOfReach-below-goal (search .best .goal) (loadOf loads) bundles values l ceiling most few small greatest out)
 
   -- all values are laid
   pub walked-end : 1 ≤ search .allowance → walked [] bundles at used loads partition ceiling search ≡ looked (min (leastOf (loadOf loads) bundles) ceiling) partition search

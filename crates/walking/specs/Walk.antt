@@ -2,7 +2,7 @@
 use mathlib.Core.Path.{_≡_}
 use mathlib.Core.Bool.{Bool, cond, _&&_}
 use mathlib.Core.List.{List, []}
-use Prim.Native.Nat.{ℕ, _+_, _≤_, min}
+use Prim.Native.Nat.{ℕ, _+_, _-_, _≤_, min}
 use lib.Dec.{leb}
 use lib.ListN.{length, getD}
 use lib.Seq.{sets}
@@ -56,3 +56,9 @@ searchable values bundles = within mostAgents bundles && (leb (length values) mo
 -- the search of values within the limits; nothing is found of others
 unfoldable pub searching : List ℕ → ℕ → ℕ → ℕ → ℕ → Search
 searching values bundles ceiling goal allowance = cond (searchable values bundles) (walkedFrom values bundles ceiling goal allowance) (start goal allowance)
+
+-- the search of values after one of them in another order: the least bundle that the first finds, one below the goal that it ends with, is
+-- the goal and the ceiling of the second
+unfoldable pub searchingAfter : List ℕ → List ℕ → ℕ → ℕ → ℕ → ℕ → Search
+searchingAfter ordered values bundles ceiling goal allowance =
+    let least = searching ordered bundles ceiling goal allowance .best .goal - 1 in searching values bundles least least allowance

@@ -1,13 +1,13 @@
 // The walk over the growth partitions, depth first and in dictionary order, that keeps the first best as far as its allowance goes.
 ghost use mathlib.Core.Path.{_≡_};
 ghost use mathlib.Core.Bool.{true};
-ghost use Prim.Native.Nat.{_+_, _≤_, _<_, min, max};
+ghost use Prim.Native.Nat.{_+_, _-_, _≤_, _<_, min, max};
 ghost use Rattle.sheet.specs.Limits.{mostAgents, mostItems, greatestSum};
 ghost use lib.ListN.{length};
 ghost use Rattle.lists.specs.Lists.{zeros};
 ghost use Rattle.reach.specs.Pruning.{GreatestFrom};
 ghost use Rattle.walking.specs.Scan.{looked, passing};
-ghost use Rattle.walking.specs.Walk.{Walkable, countAt, Counted, start, walked, walkedFrom, searchable, searching};
+ghost use Rattle.walking.specs.Walk.{Walkable, countAt, Counted, start, walked, walkedFrom, searchable, searching, searchingAfter};
 use growth::Counts;
 use growth::counts_for;
 use reach::loads::Loads;
@@ -239,14 +239,55 @@ fn is_searchable(values: &[u64], bundles: usize) -> bool
     supplied(values, Sheet::GREATEST_SUM + 1) <= Sheet::GREATEST_SUM
 }
 
-// The search for a partition of the values whose least bundle, counted up to the ceiling, reaches the goal: the first best of the growth
-// partitions, as far as the allowance goes. Nothing is found where the values or the bundles lie outside the limits of a cut.
-pub fn find(values: &[u64], bundles: usize, ceiling: u64, goal: u64, allowance: u32) -> Search
+// The search of the values by a table of counts for at least so many items.
+fn find_by(
+    values: &[u64],
+    counts: &Counts,
+    bundles: usize,
+    ceiling: u64,
+    goal: u64,
+    allowance: u32,
+) -> Search
+    requires { ⌜ Counted (min bundles mostAgents) (min (length (now values)) mostItems) (now counts) ⌝ }
     ensures { λ r. ⌜ r ≡ searching (now (values .entry)) bundles ceiling goal allowance ⌝ }
 {
     if !is_searchable(values, bundles) {
         return nothing(goal, allowance);
     }
+    walk_from(values, counts, bundles, ceiling, goal, allowance)
+}
+
+// The search for a partition of the values whose least bundle, counted up to the ceiling, reaches the goal: the first best of the growth
+// partitions, as far as the allowance goes. Nothing is found where the values or the bundles lie outside the limits of a cut.
+pub fn find(values: &[u64], bundles: usize, ceiling: u64, goal: u64, allowance: u32) -> Search
+    ensures { λ r. ⌜ r ≡ searching (now (values .entry)) bundles ceiling goal allowance ⌝ }
+{
     let counts = counts_for(values.len(), bundles);
-    walk_from(values, &counts, bundles, ceiling, goal, allowance)
+    find_by(values, &counts, bundles, ceiling, goal, allowance)
+}
+
+// One less, and 0 of 0.
+fn one_less(n: u64) -> u64
+    ensures { λ r. ⌜ r ≡ n - 1 ⌝ }
+{
+    if n < 1 { 0 } else { n - 1 }
+}
+
+// Two searches, the first over values in an order that is quick to search: the least bundle that it finds is the goal and the ceiling of
+// the search of the values.
+pub fn find_after(
+    ordered: &[u64],
+    values: &[u64],
+    bundles: usize,
+    ceiling: u64,
+    goal: u64,
+    allowance: u32,
+) -> Search
+    ensures { λ r. ⌜ r ≡ searchingAfter (now (ordered .entry)) (now (values .entry)) bundles ceiling goal allowance ⌝ }
+{
+    let counts = counts_for(greater(ordered.len(), values.len()), bundles);
+    let first = find_by(ordered, &counts, bundles, ceiling, goal, allowance);
+    let best = first.best;
+    let least = one_less(best.goal);
+    find_by(values, &counts, bundles, least, least, allowance)
 }

@@ -1,17 +1,18 @@
--- `cut::cut_by_share` meets its contract: the share does not depend on the order of the values, and the walk for it finds the first
--- partition that reaches it. Assumes nothing.
-use mathlib.Core.Path.{_≡_, sym, ap, ap₂, subst, _∙_}
+-- `cut::cut_by_share` meets its contract: the mean and the deal lie above and below the share, and the walks find it. Assumes nothing.
+use mathlib.Core.Path.{_≡_, sym, ap, _∙_}
 use mathlib.Core.List.{List·Permᴰ as Perm}
 use Prim.Native.Nat.{_≤_}
+use native.Mathlib.Nat.{div-le-self}
 use native.Mathlib.Omega.{arith}
 use lib.ListN.{length, take}
+use Rattle.lists.specs.Sums.{total}
 use Rattle.lists.proofs.members.Permuted.{length-perm, total-perm}
 use Rattle.sheet.specs.Limits.{mostItems}
-use Rattle.growth.specs.Growth.{growths}
 use Rattle.maximin.specs.Share.{maximinShare, maximinPartition}
-use Rattle.maximin.proofs.AnyOrder.{maximinShare-perm}
+use Rattle.maximin.proofs.Laws.{maximinShare-le-mean}
 use Rattle.cut.proofs.sorting.Reordered.{reordered-all}
-use Rattle.cut.proofs.Whole.{foundWith, searching-share}
+use Rattle.cut.proofs.Whole.{foundWith}
+use Rattle.cut.proofs.ShareFirst.{same-share, searching-after}
 use Rattle.cut.proofs.Answered.{answeredShare, answered-share}
 use Rattle.cut.proofs.cut_by_share.Statement.{statement}
 use Rattle.cut.proofs.cut_by_share.Tie as tie
@@ -26,53 +27,65 @@ array-share-prefix-sorted c = omega (arith, c .before .before .pre .0 .few)
 same-values : (c : tie.After-falling) → let values = c .before .before .args .values .now in Perm (take (length values) (c .falling .result)) values
 same-values c = reordered-all mostItems (c .before .before .args .values .now) (c .falling .result) (c .falling .ensures)
 
-slice-aggregate-in-falling-order : tie.Need-slice-aggregate-in-falling-order
-slice-aggregate-in-falling-order c = sym (length-perm (same-values (c .before)))
+slice-aggregate-ordered : tie.Need-slice-aggregate-ordered
+slice-aggregate-ordered c = sym (length-perm (same-values (c .before)))
 
-share-of-requires : tie.Need-share-of-requires
-share-of-requires c κs =
-    let s = c .before .before .before in
-    let allowed = s .pre .0 in
-    let p = same-values (c .before) in
-    let same = sym (length-perm p) in (
-      record {
-        few = omega (arith, same, allowed .few);
-        small = omega (arith, total-perm p, allowed .small);
-        some-bundles = allowed .some-bundles;
-        few-bundles = allowed .few-bundles;
-        some-allowance = allowed .some-allowance;
-      },
-      subst (λ k. growths (s .args .bundles) k ≤ s .args .allowance) same (s .pre .1),
-    )
+mean-requires : tie.Need-mean-requires
+mean-requires c κs = let a = c .before .before .before .pre .0 in (a .few, a .small, a .some-bundles, a .few-bundles)
 
--- what was worked out for them is the share
-is-share : (c : tie.After-share-of) → let a = c .before .before .before .before .args in c .share-of .result ≡ maximinShare (a .bundles) (a .values .now)
-is-share c =
+-- the mean is no less than the share
+mean-above : (c : tie.After-mean) → let a = c .before .before .before .before .args in maximinShare (a .bundles) (a .values .now) ≤ c .mean .result
+mean-above c =
     let s = c .before .before .before .before in
-    c .share-of .ensures ∙ maximinShare-perm (s .args .bundles) (s .pre .0 .some-bundles) (same-values (c .before .before))
+    omega (arith, c .mean .ensures, maximinShare-le-mean (s .args .bundles) (s .args .values .now) (s .pre .0 .some-bundles))
 
-find-requires : tie.Need-find-requires
-find-requires c κs = tt
+deal-requires : tie.Need-deal-requires
+deal-requires c κs =
+    let a = c .before .before .before .before .pre .0 in
+    (omega (arith, total-perm (same-values (c .before .before)), a .small), a .some-bundles, a .few-bundles)
 
--- what the walk finds
-walk-finds : (c : tie.After-find) → let a = c .before .before .before .before .before .args in
-    c .find .result ≡ foundWith (a .bundles) (a .values .now) (a .allowance) (maximinShare (a .bundles) (a .values .now)) (maximinPartition (a .bundles) (a .values .now))
-walk-finds c =
-    let s = c .before .before .before .before .before in
+-- what the deal gives is no more
+deal-below : (c : tie.After-deal) → let a = c .before .before .before .before .before .args in c .deal .result ≤ maximinShare (a .bundles) (a .values .now)
+deal-below c =
+    let sorted = c .before .before .before in
+    let s = sorted .before .before in
     let a = s .args in
+    omega (arith, c .deal .ensures, same-share (a .bundles) (take (length (a .values .now)) (sorted .falling .result)) (a .values .now) (a .allowance) (same-values sorted) (s .pre .0))
+
+add-goal : tie.Need-add-goal
+add-goal c =
+    let s = c .before .before .before .before .before in
+    let values = s .args .values .now in
     let allowed = s .pre .0 in
-    c .find .ensures
-    ∙ searching-share (a .bundles) (a .values .now) (a .allowance) (c .before .share-of .result) (c .before .share-of .result) allowed (omega (arith, is-share (c .before))) (s .pre .1) (omega (arith, is-share (c .before)))
+    omega (arith, deal-below c, maximinShare-le-mean (s .args .bundles) values (allowed .some-bundles), div-le-self (total values) (s .args .bundles), allowed .small)
+
+find-after-requires : tie.Need-find-after-requires
+find-after-requires c κs = tt
+
+-- what the walks find
+walks-find : (c : tie.After-find-after) → let a = c .before .before .before .before .before .before .args in
+    c .find-after .result ≡ foundWith (a .bundles) (a .values .now) (a .allowance) (maximinShare (a .bundles) (a .values .now)) (maximinPartition (a .bundles) (a .values .now))
+walks-find c =
+    let dealt = c .before in
+    let sorted = dealt .before .before .before in
+    let s = sorted .before .before in
+    let a = s .args in
+    c .find-after .ensures
+    ∙ searching-after (a .bundles) (take (length (a .values .now)) (sorted .falling .result)) (a .values .now) (a .allowance) (same-values sorted) (s .pre .0)
+    _ _ (s .pre .1) (mean-above (dealt .before)) (omega arith) (omega (arith, deal-below dealt))
 
 sub-t14 : tie.Need-sub-t14
-sub-t14 c = omega (arith, ap (λ found. found .allowance) (walk-finds (c .before .before .before)))
+sub-t14 c = omega (arith, ap (λ found. found .best .goal) (walks-find (c .before .before .before)))
+
+sub-t16 : tie.Need-sub-t16
+sub-t16 c = omega (arith, ap (λ found. found .allowance) (walks-find (c .before .before .before .before)))
 
 returns : tie.Need-returns
 returns c =
-    let finding = c .before .before .before in
-    let s = finding .before .before .before .before .before in
+    let finding = c .before .before .before .before in
+    let s = finding .before .before .before .before .before .before in
     let a = s .args in
-    ap₂ (answeredShare (a .bundles) (a .values .now) (a .allowance)) (is-share (finding .before)) (walk-finds finding)
+    ap (answeredShare (a .bundles) (a .values .now) (a .allowance)) (walks-find finding)
     ∙ answered-share (a .bundles) (a .values .now) (a .allowance) (s .pre .1)
 
 pub cut-by-share-spec : {M : Type 1} → statement M
@@ -81,8 +94,11 @@ cut-by-share-spec =
     (tie.spec
     falling-requires
     array-share-prefix-sorted
-    slice-aggregate-in-falling-order
-    share-of-requires
-    find-requires
+    slice-aggregate-ordered
+    mean-requires
+    deal-requires
+    add-goal
+    find-after-requires
     sub-t14
+    sub-t16
     returns)

@@ -1,11 +1,11 @@
--- `cut::cut_values` meets its contract: one bundle has one growth partition, and else the table says whether the allowance is enough.
+-- `cut::cut_values` meets its contract: one bundle has one growth partition, and else the allowance is enough for all or not.
 -- Assumes nothing.
-use mathlib.Core.Path.{_≡_, sym, ap, ap₂, _∙_}
-use Prim.Native.Nat.{_≤_, _<_, min}
+use mathlib.Core.Path.{_≡_, sym, ap, _∙_}
+use Prim.Native.Nat.{_≤_, _<_}
 use native.Mathlib.Omega.{arith}
 use lib.ListN.{length}
 use borrow.Author.Needs.{needs}
-use Rattle.sheet.specs.Limits.{mostAgents, mostItems}
+use borrow.Author.Tests.{leb-true, leb-false}
 use Rattle.sheet.specs.Answers.{accepted}
 use Rattle.growth.specs.Growth.{growths}
 use Rattle.cut.specs.Outcome.{found, outcome}
@@ -25,40 +25,36 @@ returns c =
     ∙ ap (λ found. outcome (accepted found)) (sym (found-whole 1 values (s .args .allowance) (omega (arith, growths-one (length values), s .pre .some-allowance))))
     ∙ ap (λ n. outcome (accepted (found n values (s .args .allowance)))) (sym (c .before .if1 .taken))
 
-count-requires : tie.Need-count-requires
-count-requires c κs = search needs
+is-enough-requires : tie.Need-is-enough-requires
+is-enough-requires c κs = let a = c .before .before .pre in (a .some-bundles, a .few-bundles, a .few)
 
--- the number of growth partitions of the values
-is-count : (c : tie.After-count) → let a = c .before .before .before .args in c .count .result ≡ growths (a .bundles) (length (a .values .now))
-is-count c =
-    let s = c .before .before .before in
-    let bundles : min (s .args .bundles) mostAgents ≡ s .args .bundles = omega (arith, s .pre .few-bundles) in
-    let items : min (length (s .args .values .now)) mostItems ≡ length (s .args .values .now) = omega (arith, s .pre .few) in
-    c .count .ensures ∙ ap₂ growths bundles items
-
--- there are more than the allowance
-is-short : (c : tie.Then2) → let a = c .before .before .before .before .args in a .allowance < growths (a .bundles) (length (a .values .now))
-is-short c = omega (arith, is-count (c .before), c .if2 .taken)
+-- the allowance is enough
+enough : (c : tie.Then2) → let a = c .before .before .before .before .args in growths (a .bundles) (length (a .values .now)) ≤ a .allowance
+enough c =
+    let a = c .before .before .before .before .args in
+    leb-true (growths (a .bundles) (length (a .values .now))) (a .allowance) (sym (c .before .is-enough .ensures) ∙ c .if2 .taken)
 
 -- or not
-is-enough : (c : tie.Else2) → let a = c .before .before .before .before .args in growths (a .bundles) (length (a .values .now)) ≤ a .allowance
-is-enough c = omega (arith, is-count (c .before), c .if2 .left)
+short : (c : tie.Else2) → let a = c .before .before .before .before .args in a .allowance < growths (a .bundles) (length (a .values .now))
+short c =
+    let a = c .before .before .before .before .args in
+    leb-false (growths (a .bundles) (length (a .values .now))) (a .allowance) (sym (c .before .is-enough .ensures) ∙ c .if2 .left)
 
-cut-stopped-requires : tie.Need-cut-stopped-requires
-cut-stopped-requires c κs = (c .before .before .before .before .pre, is-short c)
+cut-by-share-requires : tie.Need-cut-by-share-requires
+cut-by-share-requires c κs = (c .before .before .before .before .pre, enough c)
 
 returns-2 : tie.Need-returns-2
 returns-2 c =
     let a = c .before .before .before .before .before .args in
-    c .cut-stopped .ensures ∙ ap (λ found. outcome (accepted found)) (sym (found-stopped (a .bundles) (a .values .now) (a .allowance) (is-short (c .before))))
+    c .cut-by-share .ensures ∙ ap (λ found. outcome (accepted found)) (sym (found-whole (a .bundles) (a .values .now) (a .allowance) (enough (c .before))))
 
-cut-by-share-requires : tie.Need-cut-by-share-requires
-cut-by-share-requires c κs = (c .before .before .before .before .pre, is-enough c)
+cut-stopped-requires : tie.Need-cut-stopped-requires
+cut-stopped-requires c κs = (c .before .before .before .before .pre, short c)
 
 returns-3 : tie.Need-returns-3
 returns-3 c =
     let a = c .before .before .before .before .before .args in
-    c .cut-by-share .ensures ∙ ap (λ found. outcome (accepted found)) (sym (found-whole (a .bundles) (a .values .now) (a .allowance) (is-enough (c .before))))
+    c .cut-stopped .ensures ∙ ap (λ found. outcome (accepted found)) (sym (found-stopped (a .bundles) (a .values .now) (a .allowance) (short (c .before))))
 
 pub cut-values-spec : {M : Type 1} → statement M
 cut-values-spec =
@@ -66,8 +62,8 @@ cut-values-spec =
     (tie.spec
     cut-in-one-requires
     returns
-    count-requires
-    cut-stopped-requires
-    returns-2
+    is-enough-requires
     cut-by-share-requires
+    returns-2
+    cut-stopped-requires
     returns-3)

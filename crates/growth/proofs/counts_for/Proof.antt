@@ -1,17 +1,17 @@
--- `growth::counts_for` meets its contract. The loop's invariant: the rows up to `left` are filled. Assumes nothing.
+-- `growth::counts_for` meets its contract. The loop's invariant: the rows up to `left` are filled, and `row` is the last. Assumes nothing.
 use mathlib.Core.Path.{_≡_, sym, ap, ap₂, subst, _∙_}
-use mathlib.Core.List.{List, [], map}
+use mathlib.Core.List.{List, map}
 use Prim.Native.Nat.{ℕ, _+_, _-_, _≤_, min}
 use native.Mathlib.Numerals.{add-one}
 use native.Mathlib.Omega.{arith}
-use lib.ListN.{getD, set}
+use lib.ListN.{set}
 use borrow.Author.Needs.{needs}
 use Rattle.lists.specs.Lists.{range, zeros, padded}
 use Rattle.lists.proofs.places.Padding.{padded-range}
 use Rattle.sheet.specs.Limits.{mostAgents, mostItems}
 use Rattle.growth.specs.Counts.{usedPlaces, countRow, countTable}
 use Rattle.growth.specs.internal.Rows.{nextRow, NextFits}
-use Rattle.growth.proofs.Table.{getD-filled, next-fits, nextRow-countRow}
+use Rattle.growth.proofs.Table.{next-fits, nextRow-countRow}
 use Rattle.growth.proofs.counts_for.Statement.{statement}
 use Rattle.growth.proofs.counts_for.Tie as tie
 
@@ -24,10 +24,10 @@ filledTo-next : (n rows : ℕ) → rows ≤ mostItems → set (filledTo n rows) 
 filledTo-next n rows few = padded-range (mostItems + 1) (zeros usedPlaces) (λ c. countRow n (c - 1)) rows (countRow n rows) (omega arith) (ap (countRow n) (omega arith))
 
 abbrev Inv-loop : tie.InvT-loop
-Inv-loop items bundles last most counts₀ left₀ counts left = (left ≤ last) × (counts ≡ filledTo most (left + 1))
+Inv-loop items bundles last most counts₀ row₀ left₀ counts row left = (left ≤ last) × (row ≡ countRow most left) × (counts ≡ filledTo most (left + 1))
 
 abbrev μ-loop : tie.MeasureT-loop
-μ-loop items bundles last most counts₀ left₀ counts left = last - left
+μ-loop items bundles last most counts₀ row₀ left₀ counts row left = last - left
 
 lesser-requires : tie.Need-lesser-requires Inv-loop μ-loop
 lesser-requires c κs = search needs
@@ -44,7 +44,7 @@ array-set-from-counts c = omega arith
 loop-holds : tie.Need-loop-holds Inv-loop μ-loop
 loop-holds c =
     let n = c .before .lesser2 .result in
-    (omega arith, ap (λ row. set (filledTo n 0) 0 row) (c .first-row .ensures) ∙ filledTo-next n 0 (omega arith))
+    (omega arith, c .first-row .ensures, ap (λ row. set (filledTo n 0) 0 row) (c .first-row .ensures) ∙ filledTo-next n 0 (omega arith))
 
 -- where `most` and `last` are worked out, from where the loop is tested
 abbrev most-known : tie.At-loop Inv-loop μ-loop → tie.After-lesser2 Inv-loop μ-loop
@@ -56,23 +56,13 @@ last-known l = most-known l .before
 abbrev most : tie.At-loop Inv-loop μ-loop → ℕ
 most l = most-known l .lesser2 .result
 
--- the row that the loop goes on from
-row-left : (l : tie.At-loop Inv-loop μ-loop) → getD (l .loop .counts) (l .loop .left) [] ≡ countRow (most l) (l .loop .left)
-row-left l =
-    ap (λ rows. getD rows (l .loop .left) []) (l .loop .inv .1)
-    ∙ getD-filled (mostItems + 1) (zeros usedPlaces) [] (countRow (most l)) (l .loop .left) (l .loop .left) (omega arith)
-
-mul-row : tie.Need-mul-row Inv-loop μ-loop
-mul-row c = omega arith
-
-array-copy-out-row : tie.Need-array-copy-out-row Inv-loop μ-loop
-array-copy-out-row c = omega arith
+few-bundles : (l : tie.At-loop Inv-loop μ-loop) → most l ≤ mostAgents
+few-bundles l = omega (arith, most-known l .lesser2 .ensures)
 
 next-row-requires : tie.Need-next-row-requires Inv-loop μ-loop
 next-row-requires c κs =
-    let l = c .before .before in
-    let few : most l ≤ mostAgents = omega (arith, most-known l .lesser2 .ensures) in
-    (few, subst (NextFits (most l)) (sym (row-left l)) (next-fits (most l) (l .loop .left) few (omega (arith, last-known l .lesser .ensures))))
+    let l = c .before in
+    subst NextFits (sym (l .loop .inv .1)) (next-fits (most l) (l .loop .left) (few-bundles l) (omega (arith, last-known l .lesser .ensures)))
 
 add-counts : tie.Need-add-counts Inv-loop μ-loop
 add-counts c = omega arith
@@ -91,17 +81,20 @@ loop-less c = omega arith
 
 loop-again : tie.Need-loop-again Inv-loop μ-loop
 loop-again c =
-    let l = c .before .before .before in
+    let l = c .before .before in
     let row : c .next-row .result ≡ countRow (most l) (l .loop .left + 1) =
-    c .next-row .ensures ∙ ap (nextRow (most l)) (row-left l) ∙ nextRow-countRow (most l) (l .loop .left) ∙ ap (countRow (most l)) (sym (add-one (l .loop .left))) in
-    (omega arith, ap₂ (λ rows row. set rows (l .loop .left + 1) row) (l .loop .inv .1) row ∙ filledTo-next (most l) (l .loop .left + 1) (omega (arith, last-known l .lesser .ensures)))
+    c .next-row .ensures ∙ ap nextRow (l .loop .inv .1) ∙ nextRow-countRow (most l) (l .loop .left) (few-bundles l) ∙ ap (countRow (most l)) (sym (add-one (l .loop .left))) in (
+      omega arith,
+      row,
+      ap₂ (λ rows row. set rows (l .loop .left + 1) row) (l .loop .inv .2) row ∙ filledTo-next (most l) (l .loop .left + 1) (omega (arith, last-known l .lesser .ensures)),
+    )
 
 returns : tie.Need-returns Inv-loop μ-loop
 unfolding countTable
 returns c =
     let l = c .before in
     let all : l .loop .left ≡ last-known l .lesser .result = omega arith in
-    l .loop .inv .1
+    l .loop .inv .2
     ∙ ap (λ rows. filledTo (most l) (rows + 1)) (all ∙ last-known l .lesser .ensures)
     ∙ ap (λ n. filledTo n (min (last-known l .before .args .items) mostItems + 1)) (most-known l .lesser2 .ensures)
 
@@ -116,8 +109,6 @@ counts-for-spec =
     first-row-requires
     array-set-from-counts
     loop-holds
-    mul-row
-    array-copy-out-row
     next-row-requires
     add-counts
     mul-counts

@@ -6,6 +6,7 @@ use native.Mathlib.Omega.{arith}
 use lib.ListN.{set}
 use Rattle.lists.specs.Lists.{range, padded}
 use Rattle.lists.proofs.places.Padding.{padded-range}
+use Rattle.sheet.specs.Limits.{mostAgents}
 use Rattle.growth.specs.Counts.{usedPlaces}
 use Rattle.growth.specs.internal.Rows.{oneMore, nextRow}
 use Rattle.growth.proofs.next_row.Statement.{statement}
@@ -16,10 +17,10 @@ abbrev filledTo : List ℕ → ℕ → List ℕ
 filledTo row used = padded usedPlaces 0 (map (λ c. oneMore row (c - 1)) (range 1 used))
 
 abbrev Inv-loop : tie.InvT-loop
-Inv-loop bundles row next₀ used₀ next used = (used ≤ bundles + 1) × (next ≡ filledTo row used)
+Inv-loop row next₀ used₀ next used = (used ≤ mostAgents + 1) × (next ≡ filledTo row used)
 
 abbrev μ-loop : tie.MeasureT-loop
-μ-loop bundles row next₀ used₀ next used = bundles + 1 - used
+μ-loop row next₀ used₀ next used = mostAgents + 1 - used
 
 loop-holds : tie.Need-loop-holds Inv-loop μ-loop
 loop-holds c = (omega arith, refl)
@@ -34,7 +35,7 @@ array-read-next : tie.Need-array-read-next Inv-loop μ-loop
 array-read-next c = omega arith
 
 mul-next-2 : tie.Need-mul-next-2 Inv-loop μ-loop
-mul-next-2 c = omega (arith, c .before .before .pre .1 (c .before .loop .used) (omega arith))
+mul-next-2 c = omega (arith, c .before .before .pre (c .before .loop .used) (omega arith))
 
 add-next : tie.Need-add-next Inv-loop μ-loop
 add-next c = omega arith
@@ -46,7 +47,7 @@ array-read-next-2 : tie.Need-array-read-next-2 Inv-loop μ-loop
 array-read-next-2 c = omega arith
 
 add-next-2 : tie.Need-add-next-2 Inv-loop μ-loop
-add-next-2 c = omega (arith, c .before .before .pre .1 (c .before .loop .used) (omega arith))
+add-next-2 c = omega (arith, c .before .before .pre (c .before .loop .used) (omega arith))
 
 mul-next-4 : tie.Need-mul-next-4 Inv-loop μ-loop
 mul-next-4 c = omega arith
@@ -72,7 +73,7 @@ unfolding nextRow
 returns c =
     let l = c .before .loop in
     let a = c .before .before .args in
-    let all : l .used ≡ a .bundles + 1 = omega arith in
+    let all : l .used ≡ mostAgents + 1 = omega arith in
     l .inv .1 ∙ ap (filledTo (a .t1)) all
 
 pub next-row-spec : {M : Type 1} → statement M

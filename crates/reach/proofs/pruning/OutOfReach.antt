@@ -6,20 +6,21 @@ use mathlib.Core.List.{List}
 use Prim.Native.Nat.{ℕ, _≤_, _<_, min}
 use native.Mathlib.Omega.{arith}
 use lib.Dec.{ltb}
+use lib.ListN.{length}
 use borrow.Author.Tests.{ltb-true}
 use Rattle.lists.specs.Sums.{total}
-use Rattle.sheet.specs.Limits.{greatestSum}
+use Rattle.sheet.specs.Limits.{mostItems, greatestSum}
 use Rattle.reach.specs.Loads.{leastLoaded}
 use Rattle.reach.specs.Pruning.{greatestValue, isShort, needsMore, isOutOfReach}
 use Rattle.reach.proofs.pruning.Threshold.{isShort-below-goal}
 use Rattle.reach.proofs.pruning.Needed.{needsMore-below-goal}
 
-pub isOutOfReach-below-goal : (goal : ℕ) (load : ℕ → ℕ) (n : ℕ) (values l : List ℕ) (ceiling most : ℕ) → total values ≤ greatestSum → greatestValue values ≤ most
+pub isOutOfReach-below-goal : (goal : ℕ) (load : ℕ → ℕ) (n : ℕ) (values l : List ℕ) (ceiling most : ℕ) → length values ≤ mostItems → total values ≤ greatestSum → greatestValue values ≤ most
     → isOutOfReach ceiling goal load n values most ≡ true → min (leastLoaded n load values l) ceiling < goal
-isOutOfReach-below-goal goal load n values l ceiling most small greatest = go (ltb ceiling goal) refl (needsMore goal load n values most) refl
+isOutOfReach-below-goal goal load n values l ceiling most few small greatest = go (ltb ceiling goal) refl (needsMore goal load n values most) refl
   where
     go : (above : Bool) → ltb ceiling goal ≡ above → (more : Bool) → needsMore goal load n values most ≡ more
         → cond above true (cond more true (isShort goal load n values)) ≡ true → min (leastLoaded n load values l) ceiling < goal
     go true above more _ out = omega (arith, ltb-true ceiling goal above)
     go false above true more out = omega (arith, needsMore-below-goal goal load n values l most greatest more)
-    go false above false more out = omega (arith, isShort-below-goal goal load n values l small out)
+    go false above false more out = omega (arith, isShort-below-goal goal load n values l few small out)

@@ -1,16 +1,17 @@
 -- When a branch of the walk may be left: no partition reaches a goal of which, counted up to some threshold, the bundles lack more
 -- than the values supply. Assumes nothing.
-use mathlib.Core.Path.{_≡_, sym, ap, _∙_}
+use mathlib.Core.Path.{_≡_, refl, sym, ap, _∙_}
 use mathlib.Core.Bool.{true, false, true≢false}
 use mathlib.Core.Logic.{⊎-elim}
 use mathlib.Core.List.{List, [], _∷_}
 use Prim.Native.Nat.{ℕ, _+_, _-_, _≤_, _<_, min}
 use native.Mathlib.Omega.{arith}
-use lib.ListN.{length, getD, drop}
+use lib.ListN.{length, getD, take, drop}
+use lib.Seq.{take-all}
 use borrow.Author.Tests.{le-ltb}
 use Rattle.lists.specs.Lists.{range}
 use Rattle.lists.specs.Sums.{total}
-use Rattle.sheet.specs.Limits.{greatestSum}
+use Rattle.sheet.specs.Limits.{mostItems, greatestSum}
 use Rattle.lists.proofs.Cases.{lt-or-ge}
 use Rattle.lists.proofs.ranges.Ranges.{in-range}
 use Rattle.lists.proofs.members.Counting.{mem-any, any-none}
@@ -19,10 +20,6 @@ use Rattle.lists.proofs.sums.Sums.{sumOf-zero}
 use Rattle.reach.specs.Loads.{leastLoaded}
 use Rattle.reach.specs.Pruning.{supply, countedSupply, demand, isShortAt, isShort}
 use Rattle.reach.proofs.pruning.Reached.{lacks-le-values}
-
-pub supply-le-total : (most : ℕ) (values : List ℕ) → supply most values ≤ total values
-supply-le-total most [] = omega arith
-supply-le-total most (v ∷ values) = omega (arith, supply-le-total most values)
 
 -- values that sum to no more than the threshold count whole
 pub supply-all : (most : ℕ) (values : List ℕ) → total values ≤ most → supply most values ≡ total values
@@ -33,6 +30,16 @@ supply-all most (v ∷ values) le = omega (arith, supply-all most values (omega 
 pub supply-below : (most : ℕ) (values : List ℕ) → supply most values < most → supply most values ≡ total values
 supply-below most [] lt = omega arith
 supply-below most (v ∷ values) lt = omega (arith, supply-below most values (omega arith))
+
+-- a threshold above the sum of the values counts for as much as a greater one
+supply-cut : (most bound : ℕ) (values : List ℕ) → total values ≤ bound → supply (min most bound) values ≡ supply most values
+supply-cut most bound [] le = refl
+supply-cut most bound (v ∷ values) le = omega (arith, supply-cut most bound values (omega arith))
+
+-- values within the limits of a sheet supply what is counted
+pub supply-counted : (most : ℕ) (values : List ℕ) → length values ≤ mostItems → total values ≤ greatestSum → countedSupply most values ≡ supply most values
+supply-counted most values few small =
+    ap (supply (min most (greatestSum + 1))) (take-all mostItems values few) ∙ supply-cut most (greatestSum + 1) values (omega arith)
 
 -- what the values from i on supply: value i, and the others
 pub supply-drop : (most : ℕ) (values : List ℕ) (i : ℕ) → i < length values
@@ -49,11 +56,11 @@ module _ (goal : ℕ) (load : ℕ → ℕ) (n : ℕ) where
       lacks-le-values (λ v. min v most) (omega arith) (λ x y. omega arith) (λ x y le. omega arith) goal load n values l reached
 
   -- where the test fails at some threshold, no partition of the values reaches the goal
-  pub isShort-below-goal : (values l : List ℕ) → total values ≤ greatestSum → isShort goal load n values ≡ true → leastLoaded n load values l < goal
-  isShort-below-goal values l small short =
+  pub isShort-below-goal : (values l : List ℕ) → length values ≤ mostItems → total values ≤ greatestSum → isShort goal load n values ≡ true → leastLoaded n load values l < goal
+  isShort-below-goal values l few small short =
       ⊎-elim
       (λ lt. lt)
-      (λ reached. absurd (true≢false (sym short ∙ any-none (isShortAt goal load n values) (range 1 n) (λ c m. le-ltb (countedSupply (goal - load c) values) (demand goal load n (goal - load c)) (omega (arith, demand-le-supply (goal - load c) values l reached, supply-le-total (goal - load c) values))))))
+      (λ reached. absurd (true≢false (sym short ∙ any-none (isShortAt goal load n values) (range 1 n) (λ c m. le-ltb (countedSupply (goal - load c) values) (demand goal load n (goal - load c)) (omega (arith, demand-le-supply (goal - load c) values l reached, supply-counted (goal - load c) values few small))))))
       (lt-or-ge (leastLoaded n load values l) goal)
 
   module _ (values : List ℕ) where

@@ -159,7 +159,7 @@ module _ (t : ℕ) where
       let all : a .bundles ≡ min (a .bundles) mostAgents = omega (arith, r .few-bundles) in
       c .pass .ensures
       ∙ ap (λ k. passing k (a .search)) (counted s)
-      ∙ sym (walked-out-of-reach (a .bundles) (a .at) (a .used) (a .loads .now) (a .partition .now) (a .ceiling) (a .search) values most (omega (arith, r .sums-bounded 0)) (omega (arith, is-greatest))
+      ∙ sym (walked-out-of-reach (a .bundles) (a .at) (a .used) (a .loads .now) (a .partition .now) (a .ceiling) (a .search) values most (omega (arith, r .few)) (omega (arith, r .sums-bounded 0)) (omega (arith, is-greatest))
       (ap (λ n. isOutOfReach (a .ceiling) (a .search .best .goal) (loadOf (a .loads .now)) n values most) all ∙ sym (tested .is-out-of-reach .ensures) ∙ c .before .if3 .taken))
 
   shared-slice-read-value : lts.Need-shared-slice-read-value (claims t) (walk-at t) walk.Post Inv-loop μ-loop

@@ -34,7 +34,7 @@ returns-3 : tie.Need-returns-3
 returns-3 c =
     let values = c .before .before .before .before .before .args .values .now in
     rw (bundles-within (c .before .before), le-leb (length values) mostItems (omega arith))
-    (ap (λ sum. leb sum greatestSum) (c .supplied .ensures) ∙ supplied-within values)
+    (ap (λ sum. leb sum greatestSum) (c .supplied .ensures) ∙ supplied-within values (omega arith))
 
 pub is-searchable-spec : {M : Type 1} → statement M
 is-searchable-spec =
