@@ -1,10 +1,8 @@
--- The theorem that a division is accepted exactly if all it states is true, and samples;
+-- The theorem that a division is accepted exactly if all it states is true, and what the crates above cite, as `stated_truth` has them;
 -- then the laws that the proofs of the functions cite.
 pub mod Theorems
-pub mod Samples
 pub mod Shape
-pub mod Allocating
-pub mod StatedLines
-pub mod ByTable
 pub mod Verdicts
 pub mod Accepted
+pub mod StatedLines
+pub mod ByTable

@@ -18,9 +18,8 @@ use Rattle.shares.specs.Shares.{shareOf}
 use Rattle.grading.specs.Scale.{gradeByTable}
 use Rattle.division_reading.specs.Stated.{Stated}
 use Rattle.division_reading.specs.declared.StatedLine as line
-use Rattle.judging.specs.Truth.{bundlesOf, lineOf, noneStated, eachInOne, eachInOneOfAll, lineTrue, figuresTrue}
-use Rattle.judging.specs.Outcome.{statedLine}
-use Rattle.judging.specs.internal.Lines.{noLine, cutsInOne, linesTrue}
+use Rattle.stated_truth.specs.Truth.{bundlesOf, lineOf, noneStated, eachInOne, eachInOneOfAll, lineTrue, figuresTrue}
+use Rattle.stated_truth.specs.Lines.{noLine, statedLine, cutsInOne, allInOne, linesTrue, figuresTrueBy}
 
 -- what the first n lines state, with the grade
 abbrev pub statedOf : ℕ → ℕ → List line.StatedLine → Stated
@@ -63,7 +62,7 @@ module _ (n grade : ℕ) (lines : List line.StatedLine) where
         ∙ all-cong _ _ (range 1 n) (λ i mi. ap (λ l. eachInOne m (l .cut)) (lineOf-stated mi))
 
     -- the test of refusal 12
-    pub in-one-stated : (m : ℕ) → eachInOneOfAll m (statedOf n grade lines) ≡ eachInOne m (map itemsOf (take n (setsOf lines))) && cutsInOne n m lines
+    pub in-one-stated : (m : ℕ) → eachInOneOfAll m (statedOf n grade lines) ≡ allInOne n m (setsOf lines) lines
     unfolding eachInOneOfAll
     in-one-stated m = ap₂ _&&_ (ap (eachInOne m) bundles-stated) (cuts-stated m)
 
@@ -77,6 +76,6 @@ module _ (n grade : ℕ) (lines : List line.StatedLine) where
     -- the test of refusal 13
     pub figures-stated : (m : ℕ) (table : List (List ℕ)) (shares : List ℕ) → ((i : ℕ) → Mem i (range 1 n) → nth 0 shares i ≡ shareOf n m table i)
         → (g : ℕ) → gradeByTable n m table (bundlesOf (statedOf n grade lines)) ≡ g
-        → figuresTrue n m table (statedOf n grade lines) ≡ linesTrue n m table shares lines && eqb grade g
+        → figuresTrue n m table (statedOf n grade lines) ≡ figuresTrueBy n m table shares lines g grade
     unfolding figuresTrue
     figures-stated m table shares each g is = ap₂ _&&_ (lines-stated m table shares each) (ap (eqb grade) is)

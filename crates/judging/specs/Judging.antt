@@ -1,24 +1,2 @@
--- What judging a division of a table answers: the number of a refusal, or the margins (document 02, order 5). Assumes nothing: these are
--- definitions.
-use mathlib.Core.List.{List}
-use mathlib.Core.Option.{Option}
-use Prim.Native.Nat.{ℕ}
-use lib.IntN.{ℤ}
-use Rattle.sheet.specs.Answers.{Answer, accepted, require, requireSome, andThen}
-use Rattle.shares.specs.Shares.{sharing}
-use Rattle.grading.specs.Scale.{marginsByTable}
-use Rattle.division_reading.specs.Stated.{Stated}
-use Rattle.judging.specs.Truth.{bundlesOf, eachInOneOfAll, figuresTrue}
-
--- "in this order after 9 and before 10", of what a text states, or none where it is off the layout:
--- 11: "for a text off the layout .., with other counts of yards, pieces or a cut's piles, or naming a piece not on the sheet"
--- 12: "for a piece that is in no pile or in two, of the division or of a cut"
--- 13: "for a false worth, share, cut or grade"
--- else "for each yard .. its margin"
-unfoldable pub judging : ℕ → ℕ → List (List ℕ) → Option Stated → Answer (List ℤ)
-judging n m table stated =
-    andThen (sharing n m table) (λ shares.
-    requireSome 11 stated (λ d.
-    require 12 (eachInOneOfAll m d)
-    (require 13 (figuresTrue n m table d)
-    (accepted (marginsByTable n m table (bundlesOf d))))))
+-- What judging a division of a table answers, as `stated_truth` defines it.
+unfoldable pub use Rattle.stated_truth.specs.Judging.{judging}

@@ -1,4 +1,4 @@
--- When all that a division states is true, and what judging a division answers (document 02, order 5).
+-- What judging a division of a table answers in code. `Truth`, `Shape` and `Judging` pass on what `stated_truth` defines.
 pub mod Truth
 pub mod Shape
 pub mod Judging

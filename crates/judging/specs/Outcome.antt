@@ -7,17 +7,12 @@ use lib.IntN.{ℤ, pos}
 use lib.ListN.{take}
 use Rattle.lists.specs.Lists.{padded}
 use Rattle.sheet.specs.Limits.{mostAgents}
-use Rattle.sheet.specs.Sets.{itemsOf}
 use Rattle.sheet.specs.Answers.{Answer, refused, accepted}
-use Rattle.division_reading.specs.Stated.{StatedLine, Stated}
-use Rattle.division_reading.specs.declared.StatedLine as line
+use Rattle.division_reading.specs.Stated.{Stated}
 use Rattle.division_reading.specs.declared.Stated as stated
+pub use Rattle.stated_truth.specs.Lines.{statedLine}
 use Rattle.judging.specs.declared.Answer.the-variants.{Refused, Accepted}
 use Rattle.judging.specs.declared.Outcome.{Outcome}
-
--- what a line states of n agents: its sets as lists of items
-abbrev pub statedLine : ℕ → line.StatedLine → StatedLine
-statedLine n l = record { bundle = itemsOf (l .bundle); worth = l .worth; share = l .share; cut = map itemsOf (take n (l .cut)) }
 
 -- what is stated of n agents, where it was read
 abbrev pub statedIn : ℕ → stated.Stated → Option Stated

@@ -4,11 +4,9 @@ ghost use mathlib.Core.List.{map};
 ghost use lib.ListN.{length};
 ghost use Rattle.sheet.specs.Limits.{mostAgents};
 ghost use Rattle.sheet.specs.Answers.{refused};
-ghost use Rattle.judging.specs.Judging.{judging};
+ghost use Rattle.stated_truth.specs.Judging.{judging, judgingShared};
 ghost use Rattle.judging.specs.Outcome.{outcome, statedIn};
-ghost use Rattle.judging.specs.internal.Shared.{SharesIn, judgingShared};
-use crate::figures::figures_true;
-use crate::once::all_in_one;
+ghost use Rattle.judging.specs.internal.Shared.{SharesIn};
 use division_reading::Stated;
 use division_reading::StatedLine;
 use grading::grade_of;
@@ -20,9 +18,8 @@ use sheet::Sets;
 use sheet::Sheet;
 use sheet::Table;
 use sheet::amounts::Amounts;
-
-mod figures;
-mod once;
+use stated_figures::figures_true;
+use stated_items::all_in_one;
 
 // The number of the reason why the division is refused, or that it is accepted.
 pub enum Answer {

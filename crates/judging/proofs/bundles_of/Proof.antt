@@ -10,7 +10,7 @@ use Rattle.lists.proofs.places.Places.{nth-next}
 use Rattle.lists.proofs.places.Filling.{Filled, fill-next, fill-all}
 use Rattle.sheet.specs.Limits.{mostAgents}
 use Rattle.division_reading.specs.declared.StatedLine.{StatedLine}
-use Rattle.judging.specs.internal.Lines.{noLine}
+use Rattle.stated_truth.specs.Lines.{noLine}
 use Rattle.judging.proofs.bundles_of.Statement.{statement}
 use Rattle.judging.proofs.bundles_of.Tie as tie
 

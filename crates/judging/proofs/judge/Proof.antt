@@ -5,7 +5,7 @@ use Rattle.sheet.specs.Limits.{CountsWithin}
 use Rattle.shares.specs.Shares.{sharing}
 use Rattle.shares.proofs.Outcomes.{answered-refused, answered-shared, shares-within}
 use Rattle.judging.specs.Outcome.{statedIn, outcome}
-use Rattle.judging.proofs.Verdicts.{judging-refused, judging-within}
+use Rattle.stated_truth.proofs.Verdicts.{judging-refused, judging-within}
 use Rattle.judging.proofs.judge.Statement.{statement}
 use Rattle.judging.proofs.judge.Tie as tie
 

@@ -1,29 +1,28 @@
 -- `judging::judge_shared` meets its contract: at each `return` the tests that led there say which answer is given. Assumes nothing.
-use mathlib.Core.Path.{_≡_, sym, ap, _∙_}
-use mathlib.Core.Bool.{true, cond, _&&_}
+use mathlib.Core.Path.{_≡_, sym, ap, ap₂, _∙_}
+use mathlib.Core.Bool.{true, cond}
 use mathlib.Core.List.{List, [], map, List·Memᴰ as Mem}
 use mathlib.Core.Option.{none, some}
-use Prim.Native.Nat.{ℕ}
+use Prim.Native.Nat.{ℕ, min}
+use native.Mathlib.Omega.{arith}
 use lib.IntN.{ℤ, pos}
-use lib.ListN.{take}
 use borrow.Author.Tests.{not-true, not-false}
 use borrow.Author.Needs.{needs}
 use Rattle.lists.specs.Lists.{range, nth, padded}
-use Rattle.sheet.specs.Limits.{mostAgents}
+use Rattle.sheet.specs.Limits.{mostAgents, mostItems}
 use Rattle.sheet.specs.Sets.{itemsOf}
 use Rattle.sheet.specs.Answers.{Answer}
-use Rattle.sheet.proofs.Limits.{counts-in-use}
 use Rattle.grading.specs.Grade.{gradeIn}
 use Rattle.grading.specs.Scale.{marginsByTable, gradeByTable}
 use Rattle.division_reading.specs.Stated.{Stated}
-use Rattle.judging.specs.Truth.{bundlesOf, eachInOne, eachInOneOfAll, figuresTrue}
+use Rattle.stated_truth.specs.Truth.{bundlesOf, eachInOneOfAll, figuresTrue}
 use Rattle.judging.specs.Outcome.{statedIn, outcome}
-use Rattle.judging.specs.internal.Lines.{cutsInOne}
-use Rattle.judging.specs.internal.Shared.{judgingRead, judgingShared}
+use Rattle.stated_truth.specs.Lines.{allInOne, figuresTrueBy}
+use Rattle.stated_truth.specs.Judging.{judgingRead, judgingShared}
 use Rattle.judging.specs.declared.Answer.the-variants.{Accepted}
 use Rattle.judging.proofs.StatedLines.{statedOf, nth-bundle, in-one-stated, figures-stated}
 use Rattle.judging.proofs.ByTable.{nth-share, margins-by-table, grade-by-table}
-use Rattle.judging.proofs.Verdicts.{judged-not-once, judged-false, judged-true}
+use Rattle.stated_truth.proofs.Verdicts.{judged-not-once, judged-false, judged-true}
 use Rattle.judging.proofs.judge_shared.Statement.{statement}
 use Rattle.judging.proofs.judge_shared.Tie as tie
 
@@ -72,12 +71,20 @@ grade-told c =
     ∙ grade-by-table (a .agents) (a .items) (a .table) (a .shares) (start c .pre) bundles (bundlesOf (division c)) (same-items c)
     (worths .result) (worths .ensures .0) (worths .ensures .1))
 
+-- the counts are within the limits of a sheet, so that neither is cut
+agents-kept : (c : tie.After-figures-true) → let n = start c .args .agents in n ≡ min n mostAgents
+agents-kept c = omega (arith, start c .pre .counts .few)
+
+items-kept : (c : tie.After-figures-true) → let m = start c .args .items in m ≡ min m mostItems
+items-kept c = omega (arith, start c .pre .counts .few-items)
+
 -- the test of refusal 12
 in-one-told : (c : tie.After-figures-true) → eachInOneOfAll (start c .args .items) (division c) ≡ c .before .all-in-one .result
 in-one-told c =
     let a = start c .args in
     in-one-stated (a .agents) (a .stated .grade) (a .stated .lines) (start c .pre .counts .few) (sets c .bundles-of .ensures .1) (a .items)
-    ∙ ap (λ sets. eachInOne (a .items) (map itemsOf (take (a .agents) sets)) && cutsInOne (a .agents) (a .items) (a .stated .lines)) (sym (sets c .bundles-of .ensures .0))
+    ∙ ap (λ sets. allInOne (a .agents) (a .items) sets (a .stated .lines)) (sym (sets c .bundles-of .ensures .0))
+    ∙ ap₂ (λ n m. allInOne n m (sets c .bundles-of .result) (a .stated .lines)) (agents-kept c) (items-kept c)
     ∙ sym (c .before .all-in-one .ensures)
 
 -- the test of refusal 13
@@ -88,6 +95,7 @@ figures-told c =
     let a = start c .args in
     figures-stated (a .agents) (a .stated .grade) (a .stated .lines) (start c .pre .counts .few) (sets c .bundles-of .ensures .1) (a .items) (a .table) (a .shares)
     (λ i mi. nth-share (a .agents) (a .items) (a .table) (a .shares) (start c .pre) mi) (c .before .before .grade-of .result) (grade-told c)
+    ∙ ap₂ (λ n m. figuresTrueBy n m (a .table) (a .shares) (a .stated .lines) (c .before .before .grade-of .result) (a .stated .grade)) (agents-kept c) (items-kept c)
     ∙ sym (c .figures-true .ensures)
 
 -- where the division is read, the answer is that on what it states
@@ -111,10 +119,10 @@ grade-of-requires : tie.Need-grade-of-requires
 grade-of-requires c κs = search needs
 
 all-in-one-requires : tie.Need-all-in-one-requires
-all-in-one-requires c κs = counts-in-use (c .before .before .before .before .before .pre .counts)
+all-in-one-requires c κs = search needs
 
 figures-true-requires : tie.Need-figures-true-requires
-figures-true-requires c κs = counts-in-use (c .before .before .before .before .before .before .pre .counts)
+figures-true-requires c κs = search needs
 
 refuse-requires : tie.Need-refuse-requires
 refuse-requires c κs = search needs

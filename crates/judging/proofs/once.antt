@@ -1,2 +1,0 @@
--- Laws of items that are each in one bundle.
-pub mod Bits

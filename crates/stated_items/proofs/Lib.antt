@@ -1,0 +1,2 @@
+-- Laws of items that are each in one bundle.
+mod Bits

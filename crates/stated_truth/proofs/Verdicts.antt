@@ -1,0 +1,47 @@
+-- The answer on what a division states, by its tests in turn. Assumes nothing.
+use mathlib.Core.Path.{_≡_}
+use mathlib.Core.Bool.{true, false}
+use mathlib.Core.List.{List}
+use mathlib.Core.Option.{Option}
+use Prim.Native.Nat.{ℕ, _≤_}
+use native.Mathlib.Omega.{arith}
+use Rattle.sheet.specs.Limits.{CountsWithin}
+use Rattle.sheet.specs.Answers.{refused, accepted}
+use Rattle.sheet.proofs.Refusals.{RefusedBelow, below-accepted, below-require, below-requireSome, below-andThen}
+use Rattle.shares.specs.Shares.{sharing}
+use Rattle.shares.proofs.Refusals.{sharing-within, sharing-refusals}
+use Rattle.grading.specs.Scale.{marginsByTable}
+use Rattle.division_reading.specs.Stated.{Stated}
+use Rattle.stated_truth.specs.Truth.{bundlesOf, eachInOneOfAll, figuresTrue}
+use Rattle.stated_truth.specs.Judging.{judging}
+use Rattle.stated_truth.specs.Judging.{judgingRead, judgingShared}
+
+module _ (n m : ℕ) (table : List (List ℕ)) (stated : Option Stated) where
+  -- refused as the shares are
+  pub judging-refused : (number : ℕ) → sharing n m table ≡ refused number → judging n m table stated ≡ refused number
+  unfolding judging
+  judging-refused number out = rw out
+
+  -- within the limits there are shares
+  pub judging-within : CountsWithin n m → judging n m table stated ≡ judgingShared n m table stated
+  unfolding judging
+  judging-within counts = rw (sharing-within n m table counts)
+
+  -- judging has no allowance: its refusals are those of the shares, 11, 12 and 13, and never 14
+  pub judging-refusals : (k : ℕ) → 14 ≤ k → RefusedBelow k (judging n m table stated)
+  unfolding judging
+  judging-refusals k above =
+      below-andThen k (sharing n m table) _ (sharing-refusals n m table k (omega arith)) (λ shares.
+      below-requireSome k 11 stated _ (omega arith) (λ d.
+      below-require k 12 (eachInOneOfAll m d) _ (omega arith)
+      (below-require k 13 (figuresTrue n m table d) _ (omega arith) (below-accepted k _))))
+
+module _ (n m : ℕ) (table : List (List ℕ)) (d : Stated) where
+  pub judged-not-once : eachInOneOfAll m d ≡ false → judgingRead n m table d ≡ refused 12
+  judged-not-once out = rw out
+
+  pub judged-false : eachInOneOfAll m d ≡ true → figuresTrue n m table d ≡ false → judgingRead n m table d ≡ refused 13
+  judged-false once out = rw (once, out)
+
+  pub judged-true : eachInOneOfAll m d ≡ true → figuresTrue n m table d ≡ true → judgingRead n m table d ≡ accepted (marginsByTable n m table (bundlesOf d))
+  judged-true once correct = rw (once, correct)

@@ -1,0 +1,47 @@
+-- The lines as the code has them, in six places, and what each states. Assumes nothing: these are definitions.
+use mathlib.Core.Bool.{Bool, _&&_}
+use mathlib.Core.List.{List, [], map}
+use Prim.Native.Nat.{ℕ}
+use lib.Dec.{eqb, leb}
+use lib.ListN.{take}
+use Rattle.lists.specs.Lists.{range, nth, all}
+use Rattle.lists.specs.Sums.{leastOf}
+use Rattle.sheet.specs.Sets.{itemsOf}
+use Rattle.sheet.specs.Valuations.{value}
+use Rattle.sheet.specs.Tables.{valuation, allValues}
+use Rattle.division_reading.specs.Stated.{StatedLine}
+use Rattle.division_reading.specs.declared.StatedLine as line
+use Rattle.stated_truth.specs.Truth.{eachInOne}
+
+-- what stands beyond the last place
+abbrev pub noLine : line.StatedLine
+noLine = record { bundle = 0; worth = 0; share = 0; cut = [] }
+
+-- what a line states of n agents: its sets as lists of items
+abbrev pub statedLine : ℕ → line.StatedLine → StatedLine
+statedLine n l = record { bundle = itemsOf (l .bundle); worth = l .worth; share = l .share; cut = map itemsOf (take n (l .cut)) }
+
+module _ (n m : ℕ) where
+  -- whether each item is in just one bundle of the cut, in each line
+  abbrev pub cutsInOne : List line.StatedLine → Bool
+  cutsInOne lines = all (λ i. eachInOne m (map itemsOf (take n (nth noLine lines i .cut)))) (range 1 n)
+
+  -- whether it is in just one of the bundles, which stand as sets, and in just one of each cut
+  abbrev pub allInOne : List ℕ → List line.StatedLine → Bool
+  allInOne sets lines = eachInOne m (map itemsOf (take n sets)) && cutsInOne lines
+
+  -- the value of the least bundle of a cut, by a valuation
+  abbrev pub leastTo : List ℕ → List (List ℕ) → ℕ
+  leastTo row cut = leastOf (λ c. value (allValues m row) (nth [] cut c)) n
+
+  -- whether the line of an agent with this valuation and this share is true
+  abbrev pub lineTrueTo : List ℕ → ℕ → StatedLine → Bool
+  lineTrueTo row share l = eqb (l .worth) (value (allValues m row) (l .bundle)) && eqb (l .share) share && leb share (leastTo row (l .cut))
+
+  -- whether all lines are true, by the agents' valuations and shares
+  abbrev pub linesTrue : List (List ℕ) → List ℕ → List line.StatedLine → Bool
+  linesTrue table shares lines = all (λ i. lineTrueTo (valuation table i) (nth 0 shares i) (statedLine n (nth noLine lines i))) (range 1 n)
+
+  -- whether all lines are true, and the grade that is stated is the grade
+  abbrev pub figuresTrueBy : List (List ℕ) → List ℕ → List line.StatedLine → ℕ → ℕ → Bool
+  figuresTrueBy table shares lines grade stated = linesTrue table shares lines && eqb stated grade

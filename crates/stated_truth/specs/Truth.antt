@@ -1,0 +1,65 @@
+-- What a division states of a table, and when that is true (document 02, order 5): n agents (yards), m items (pieces). Assumes nothing:
+-- these are definitions.
+use mathlib.Core.Path.{_≡_}
+use mathlib.Core.Bool.{Bool, _&&_}
+use mathlib.Core.List.{List, [], map}
+use Prim.Native.Nat.{ℕ, _≤_}
+use lib.Dec.{eqb, leb}
+use Rattle.lists.specs.Lists.{range, nth, all, count, elem}
+use Rattle.lists.specs.Sums.{leastOf}
+use Rattle.sheet.specs.Valuations.{value}
+use Rattle.sheet.specs.Tables.{valuation, allValues}
+use Rattle.sheet.specs.Allocations.{Allocates}
+use Rattle.shares.specs.Shares.{shareOf}
+use Rattle.grading.specs.Scale.{gradeByTable}
+use Rattle.division_reading.specs.Stated.{StatedLine, Stated}
+
+-- the bundles (piles) of the agents, in turn
+abbrev pub bundlesOf : Stated → List (List ℕ)
+bundlesOf d = map (λ l. l .bundle) (d .lines)
+
+-- a line that is not there states nothing
+abbrev pub noneStated : StatedLine
+noneStated = record { bundle = []; worth = 0; share = 0; cut = [] }
+
+-- what agent i states
+abbrev pub lineOf : Stated → ℕ → StatedLine
+lineOf d i = nth noneStated (d .lines) i
+
+module _ (m : ℕ) where
+  -- whether no item of 1 .. m "is in no pile or in two": each is in just one of the bundles
+  unfoldable pub eachInOne : List (List ℕ) → Bool
+  eachInOne bundles = all (λ k. eqb (count (elem k) bundles) 1) (range 1 m)
+
+  -- "of the division or of a cut"
+  unfoldable pub eachInOneOfAll : Stated → Bool
+  eachInOneOfAll d = eachInOne (bundlesOf d) && all (λ l. eachInOne (l .cut)) (d .lines)
+
+module _ (n m : ℕ) (table : List (List ℕ)) where
+  -- the value (worth) of a bundle by agent i's marks
+  abbrev pub worthTo : ℕ → List ℕ → ℕ
+  worthTo i bundle = value (allValues m (valuation table i)) bundle
+
+  -- the least bundle of a cut, by agent i's marks: "the smallest worth among all n piles"
+  abbrev pub leastOfCut : ℕ → List (List ℕ) → ℕ
+  leastOfCut i cut = leastOf (λ c. worthTo i (nth [] cut c)) n
+
+  -- whether agent i's line states its worth and its share as they are, and a cut "that reaches the share"
+  unfoldable pub lineTrue : ℕ → StatedLine → Bool
+  lineTrue i l = eqb (l .worth) (worthTo i (l .bundle)) && eqb (l .share) (shareOf n m table i) && leb (shareOf n m table i) (leastOfCut i (l .cut))
+
+  -- whether there is no "false worth, share, cut or grade"
+  unfoldable pub figuresTrue : Stated → Bool
+  figuresTrue d = all (λ i. lineTrue i (lineOf d i)) (range 1 n) && eqb (d .grade) (gradeByTable n m table (bundlesOf d))
+
+  -- "all it states is true"
+  pub record AllTrue (d : Stated) : Type 0 where
+    -- the bundles divide the items among the agents, and so does each cut
+    pub divides : Allocates n m (bundlesOf d)
+    pub cut-divides : (i : ℕ) → 1 ≤ i → i ≤ n → Allocates n m (lineOf d i .cut)
+    -- each worth and each share is the agent's, and each cut reaches the share
+    pub worth-true : (i : ℕ) → 1 ≤ i → i ≤ n → lineOf d i .worth ≡ worthTo i (lineOf d i .bundle)
+    pub share-true : (i : ℕ) → 1 ≤ i → i ≤ n → lineOf d i .share ≡ shareOf n m table i
+    pub cut-reaches : (i : ℕ) → 1 ≤ i → i ≤ n → shareOf n m table i ≤ leastOfCut i (lineOf d i .cut)
+    -- the grade is that of the bundles
+    pub grade-true : d .grade ≡ gradeByTable n m table (bundlesOf d)

@@ -1,0 +1,1 @@
+// What a division of a table states, when that is true, and what judging it answers: definitions and laws, no code.
