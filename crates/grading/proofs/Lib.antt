@@ -1,8 +1,6 @@
--- Laws of the grade, and the scale that the grades are.
-pub mod Samples
+-- What the crates above cite, as `grades` has it; then the laws that the proofs of the functions cite.
 pub mod NoneNegative
-pub mod Tests
 pub mod InPlaces
 pub mod Grades
-pub mod Implied
 pub mod Scale
+pub mod Tests

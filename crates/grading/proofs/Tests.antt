@@ -9,7 +9,7 @@ use Rattle.lists.proofs.members.Tests.{all-cong}
 use Rattle.sheet.specs.Limits.{mostAgents}
 use Rattle.sheet.specs.Amounts.{eachAtMost}
 use Rattle.sheet.proofs.amounts.Comparing.{eachAtMost-all}
-use Rattle.grading.specs.Grade.{valueTo, envyFree, proportional, maximinFair}
+use Rattle.grades.specs.Grade.{valueTo, envyFree, proportional, maximinFair}
 use Rattle.grading.specs.internal.Compared.{ownValue, greatestValue, multipleOfOwn, totalValue, compared}
 
 module _ (n : ℕ) (valuations bundles : List (List ℕ)) where

@@ -1,4 +1,4 @@
--- The grade of an allocation (document 01, "Grades"), and its tests one after the other.
+-- The grade of an allocation, as `grades` defines it. `internal` has what the contracts of private functions cite.
 pub mod Grade
 pub mod Scale
 pub mod internal

@@ -9,7 +9,7 @@ ghost use Rattle.sheet.specs.Sets.{itemsOf};
 ghost use Rattle.sheet.specs.Valuations.{value};
 ghost use Rattle.sheet.specs.Tables.{allValues, profile};
 ghost use Rattle.sheet.specs.Amounts.{SmallAmounts};
-ghost use Rattle.grading.specs.Grade.{worthsIn, gradeIn};
+ghost use Rattle.grades.specs.Grade.{worthsIn, gradeIn};
 ghost use Rattle.grading.specs.internal.Compared.{compared};
 use margins::Margins;
 use margins::none_negative;

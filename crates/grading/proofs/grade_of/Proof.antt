@@ -10,7 +10,7 @@ use Rattle.sheet.specs.Sets.{itemsOf}
 use Rattle.sheet.specs.Tables.{profile}
 use Rattle.sheet.specs.Amounts.{eachAtMost}
 use Rattle.margins.specs.Margins.{noneNegative}
-use Rattle.grading.specs.Grade.{envyFree, proportional, maximinFair, grade, gradeIn}
+use Rattle.grades.specs.Grade.{envyFree, proportional, maximinFair, grade, gradeIn}
 use Rattle.grading.specs.internal.Compared.{compared}
 use Rattle.grading.specs.declared.Compared.{Compared}
 use Rattle.grading.proofs.Tests.{envyFree-compared, proportional-compared, maximinFair-compared}

@@ -5,7 +5,7 @@ use Rattle.lists.specs.Lists.{range, padded}
 use Rattle.lists.specs.Sums.{total, greatestOf}
 use Rattle.sheet.specs.Limits.{mostAgents}
 use Rattle.sheet.specs.Tables.{valuation}
-use Rattle.grading.specs.Grade.{valueTo}
+use Rattle.grades.specs.Grade.{valueTo}
 use Rattle.grading.specs.declared.Compared.{Compared}
 
 module _ (n : ℕ) (valuations bundles : List (List ℕ)) where

@@ -23,9 +23,9 @@ use Rattle.shares.proofs.Profile.{nth-shares}
 use Rattle.margins.specs.Terms.{termsFor}
 use Rattle.margins.specs.Margins.{marginsOf, noneNegative}
 use Rattle.margins.proofs.TermsFor.{top-le-bottom}
-use Rattle.grading.specs.Grade.{ownValues, valueTo, envyFree, proportional, maximinFair}
-use Rattle.grading.specs.Scale.{sharesOf}
-use Rattle.grading.proofs.NoneNegative.{noneNegative-own}
+use Rattle.grades.specs.Grade.{ownValues, valueTo, envyFree, proportional, maximinFair}
+use Rattle.grades.specs.Scale.{sharesOf}
+use Rattle.grades.proofs.NoneNegative.{noneNegative-own}
 
 module _ (n m : ℕ) (table bundles : List (List ℕ)) where
   -- the marks in use

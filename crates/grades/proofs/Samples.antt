@@ -6,8 +6,8 @@ use Rattle.sheet.specs.Tables.{profile}
 use Rattle.cut.specs.Share.{maximinShare}
 use Rattle.margins.specs.Terms.{largestOdd, termsFor}
 use Rattle.margins.specs.Margins.{margin}
-use Rattle.grading.specs.Grade.{envyFree, proportional, maximinFair, grade}
-use Rattle.grading.specs.Scale.{gradeByTable}
+use Rattle.grades.specs.Grade.{envyFree, proportional, maximinFair, grade}
+use Rattle.grades.specs.Scale.{gradeByTable}
 
 -- a table of three agents, an allocation of its items, and the grade
 pub record Sample : Type 0 where

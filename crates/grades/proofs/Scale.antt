@@ -1,0 +1,66 @@
+-- The grades are a scale: what passes a test passes all those after it, and its grade is the first. For every table, n agents (yards),
+-- m items (pieces) and any marks, and every allocation of its items. Assumes nothing.
+use mathlib.Core.Path.{_≡_, refl, sym, ap, _∙_}
+use mathlib.Core.Bool.{Bool, true, false}
+use mathlib.Core.Logic.{⊎-elim}
+use mathlib.Core.List.{List, [], _∷_, map}
+use Prim.Native.Nat.{ℕ, _-_, _≤_}
+use native.Mathlib.Omega.{arith}
+use lib.Dec.{leb}
+use lib.ListN.{List·getD-eq-default}
+use borrow.Author.Tests.{le-leb, leb-true}
+use Rattle.lists.specs.Lists.{range, nth}
+use Rattle.lists.proofs.Cases.{lt-or-ge}
+use Rattle.lists.proofs.ranges.Ranges.{in-range, nth-map-range}
+use Rattle.sheet.specs.Tables.{profile}
+use Rattle.sheet.specs.Allocations.{Allocates}
+use Rattle.margins.specs.Margins.{noneNegative}
+use Rattle.grades.specs.Grade.{envyFree, proportional, maximinFair, grade}
+use Rattle.grades.specs.Scale.{sharesOf, marginsByTable, passes, gradeByTable}
+use Rattle.grades.proofs.Grades.{first, first-bounds}
+use Rattle.grades.proofs.Implied.{envyFree-proportional, proportional-maximinFair, maximinFair-noneNegative}
+
+-- where each test implies the next, they pass from the first that passes on
+from-first : (a b c d : Bool) → (a ≡ true → b ≡ true) → (b ≡ true → c ≡ true) → (c ≡ true → d ≡ true) → a ∷ b ∷ c ∷ d ∷ [] ≡ map (leb (first a b c d)) (range 1 4)
+from-first true b c d ab bc cd = rw (cd (bc (ab refl)), bc (ab refl), ab refl)
+from-first false true c d ab bc cd = rw (cd (bc refl), bc refl)
+from-first false false true d ab bc cd = rw (cd refl)
+from-first false false false true ab bc cd = refl
+from-first false false false false ab bc cd = refl
+
+nth-from-first : (a b c d : Bool) → (a ≡ true → b ≡ true) → (b ≡ true → c ≡ true) → (c ≡ true → d ≡ true)
+    → (g : ℕ) → 1 ≤ g → nth true (a ∷ b ∷ c ∷ d ∷ []) g ≡ leb (first a b c d) g
+nth-from-first a b c d ab bc cd g some =
+    ap (λ l. nth true l g) (from-first a b c d ab bc cd)
+    ∙ ⊎-elim
+    (λ lt. nth-map-range (leb (first a b c d)) true 4 (in-range 1 4 g some (omega arith)))
+    (λ ge. List·getD-eq-default (map (leb (first a b c d)) (range 1 4)) true {n = g - 1} (omega arith) ∙ sym (le-leb (first a b c d) g (omega (arith, first-bounds a b c d))))
+    (lt-or-ge g 5)
+
+module _ (n m : ℕ) (table bundles : List (List ℕ)) (allocates : Allocates n m bundles) where
+  -- it passes the test for g exactly where its grade is at most g
+  pub passes-from-grade : (g : ℕ) → 1 ≤ g → passes n m table bundles g ≡ leb (gradeByTable n m table bundles) g
+  unfolding grade
+  passes-from-grade =
+      nth-from-first
+      (envyFree n (profile n m table) (sharesOf n m table) bundles)
+      (proportional n (profile n m table) (sharesOf n m table) bundles)
+      (maximinFair n (profile n m table) (sharesOf n m table) bundles)
+      (noneNegative n (marginsByTable n m table bundles))
+      (envyFree-proportional n m table bundles allocates (sharesOf n m table))
+      (proportional-maximinFair n m table bundles)
+      (maximinFair-noneNegative n m table bundles (sharesOf n m table))
+
+  -- what passes a test passes all those after it
+  pub passes-later : (g h : ℕ) → 1 ≤ g → g ≤ h → passes n m table bundles g ≡ true → passes n m table bundles h ≡ true
+  passes-later g h some later passed =
+      passes-from-grade h (omega arith)
+      ∙ le-leb (gradeByTable n m table bundles) h (omega (arith, leb-true (gradeByTable n m table bundles) g (sym (passes-from-grade g some) ∙ passed)))
+
+  -- "a grade 1 division passes the tests for 2 and 3"
+  pub grade-1-passes-2-and-3 : gradeByTable n m table bundles ≡ 1 → (passes n m table bundles 2 ≡ true) × (passes n m table bundles 3 ≡ true)
+  grade-1-passes-2-and-3 is-1 = (passes-from-grade 2 (omega arith) ∙ ap (λ g. leb g 2) is-1, passes-from-grade 3 (omega arith) ∙ ap (λ g. leb g 3) is-1)
+
+  -- "and a grade 2 division the test for 3"
+  pub grade-2-passes-3 : gradeByTable n m table bundles ≡ 2 → passes n m table bundles 3 ≡ true
+  grade-2-passes-3 is-2 = passes-from-grade 3 (omega arith) ∙ ap (λ g. leb g 3) is-2

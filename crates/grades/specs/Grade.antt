@@ -1,0 +1,54 @@
+-- "The loft's custom, from the whole division; the first that fits", with the even test of document 02, order 2, and the fifth grade of order 5.
+-- Assumes nothing: these are definitions.
+use mathlib.Core.Bool.{Bool, cond}
+use mathlib.Core.List.{List, [], map}
+use Prim.Native.Nat.{ℕ, _*_, min}
+use lib.Dec.{leb}
+use lib.IntN.{ℤ}
+use Rattle.lists.specs.Lists.{range, nth, all, padded}
+use Rattle.lists.specs.Sums.{total}
+use Rattle.sheet.specs.Limits.{mostAgents, mostItems}
+use Rattle.sheet.specs.Sets.{itemsOf}
+use Rattle.sheet.specs.Valuations.{value}
+use Rattle.sheet.specs.Tables.{valuation, profile}
+use Rattle.margins.specs.Margins.{noneNegative}
+
+-- the worth of each agent's own bundle (pile), by its valuation
+abbrev pub ownValues : ℕ → List (List ℕ) → List (List ℕ) → List ℕ
+ownValues n valuations bundles = map (λ i. value (valuation valuations i) (nth [] bundles i)) (range 1 n)
+
+module _ (n : ℕ) (valuations : List (List ℕ)) (shares : List ℕ) (bundles : List (List ℕ)) where
+  -- what agent i's valuation says of agent j's bundle
+  abbrev pub valueTo : ℕ → ℕ → ℕ
+  valueTo i j = value (valuation valuations i) (nth [] bundles j)
+
+  -- "no yard counts another's pile as worth more than its own"
+  unfoldable pub envyFree : Bool
+  envyFree = all (λ i. all (λ j. leb (valueTo i j) (valueTo i i)) (range 1 n)) (range 1 n)
+
+  -- "a division is even when N times the worth of each pile is at least its yard's total"
+  unfoldable pub proportional : Bool
+  proportional = all (λ i. leb (total (valuation valuations i)) (n * valueTo i i)) (range 1 n)
+
+  -- "each pile reaches its yard's whole maximin share"
+  unfoldable pub maximinFair : Bool
+  maximinFair = all (λ i. leb (nth 0 shares i) (valueTo i i)) (range 1 n)
+
+-- "the first that fits", with the agents' margins: "4 now needs every margin to be zero or more, and 5 is the rest"
+unfoldable pub grade : ℕ → List (List ℕ) → List ℕ → List ℤ → List (List ℕ) → ℕ
+grade n valuations shares margins bundles =
+    cond (envyFree n valuations shares bundles) 1
+    (cond (proportional n valuations shares bundles) 2
+    (cond (maximinFair n valuations shares bundles) 3
+    (cond (noneNegative n margins) 4 5)))
+
+-- the worths of any allocation of a table in six places, by the places in use: counts above the limits are cut to them, and items above those in
+-- use are worth nothing; the bundles are 16-bit sets
+unfoldable pub worthsIn : ℕ → ℕ → List (List ℕ) → List ℕ → List ℕ
+worthsIn agents items table sets =
+    padded mostAgents 0 (ownValues (min agents mostAgents) (profile (min agents mostAgents) (min items mostItems) table) (map itemsOf sets))
+
+-- the grade of any allocation of a table, by the places in use in the same way
+unfoldable pub gradeIn : ℕ → ℕ → List (List ℕ) → List ℕ → List ℤ → List ℕ → ℕ
+gradeIn agents items table shares margins sets =
+    grade (min agents mostAgents) (profile (min agents mostAgents) (min items mostItems) table) shares margins (map itemsOf sets)

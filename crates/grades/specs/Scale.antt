@@ -1,0 +1,38 @@
+-- The tests of the grades one after the other, for an allocation of the items of a table. Assumes nothing: these are definitions.
+use mathlib.Core.Bool.{Bool, true}
+use mathlib.Core.List.{List, [], _∷_, map}
+use Prim.Native.Nat.{ℕ}
+use lib.IntN.{ℤ}
+use Rattle.lists.specs.Lists.{nth}
+use Rattle.sheet.specs.Tables.{profile}
+use Rattle.cut.specs.Share.{maximinShare}
+use Rattle.margins.specs.Terms.{termsFor}
+use Rattle.margins.specs.Margins.{marginsOf, noneNegative}
+use Rattle.grades.specs.Grade.{ownValues, envyFree, proportional, maximinFair, grade}
+
+module _ (n m : ℕ) (table : List (List ℕ)) where
+  -- the shares of the n agents, over the items 1 .. m
+  abbrev pub sharesOf : List ℕ
+  sharesOf = map (maximinShare n) (profile n m table)
+
+  module _ (bundles : List (List ℕ)) where
+    -- the margin of each agent, by the terms of document 01
+    abbrev pub marginsByTable : List ℤ
+    marginsByTable = marginsOf n (termsFor n) (ownValues n (profile n m table) bundles) sharesOf
+
+    -- "the tests for" 1, 2, 3 and 4: no envy, even, the whole share, no margin below zero
+    abbrev pub tests : List Bool
+    tests =
+        envyFree n (profile n m table) sharesOf bundles
+        ∷ proportional n (profile n m table) sharesOf bundles
+        ∷ maximinFair n (profile n m table) sharesOf bundles
+        ∷ noneNegative n marginsByTable
+        ∷ []
+
+    -- whether the allocation passes the test for grade g, from 1 on; 5 asks for nothing
+    abbrev pub passes : ℕ → Bool
+    passes g = nth true tests g
+
+    -- the grade of the allocation, by the marks of the table alone
+    abbrev pub gradeByTable : ℕ
+    gradeByTable = grade n (profile n m table) sharesOf marginsByTable bundles
