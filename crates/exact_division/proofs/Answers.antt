@@ -8,7 +8,7 @@ use Prim.Native.Nat.{ℕ, _≤_}
 use Rattle.sheet.specs.Limits.{CountsWithin}
 use Rattle.sheet.specs.Answers.{refused, accepted}
 use Rattle.sheet.proofs.Accepted.{refused-not-accepted}
-use Rattle.sheet.proofs.Refusals.{RefusedBelow, below-accepted, below-andThen}
+use Rattle.sheet.proofs.Refusals.{NeverRefused, never-accepted, never-andThen}
 use Rattle.shares.specs.Shares.{sharing}
 use Rattle.shares.proofs.Refusals.{sharing-within, sharing-cases, sharing-refusals}
 use Rattle.exact_division.specs.Exact.{exactExists}
@@ -36,6 +36,6 @@ module _ (n m : ℕ) (table : List (List ℕ)) where
       same e = cc
 
   -- the search has no allowance: it refuses as the shares are refused, and never with 14
-  pub searching-refusals : (k : ℕ) → 10 ≤ k → RefusedBelow k (searching n m table)
+  pub searching-refusals : (k : ℕ) → 10 ≤ k → NeverRefused k (searching n m table)
   unfolding searching
-  searching-refusals k above = below-andThen k (sharing n m table) _ (sharing-refusals n m table k above) (λ _. below-accepted k _)
+  searching-refusals k above = never-andThen k (sharing n m table) _ (sharing-refusals n m table k above) (λ _. never-accepted k _)

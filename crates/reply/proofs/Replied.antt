@@ -10,12 +10,11 @@ use lib.Seq.{take-at}
 use borrow.Author.Tests.{ltb-true}
 use Rattle.text.proofs.Decimal.{decimal-length}
 use Rattle.sheet.specs.Answers.{Answer, refused, accepted, after}
-use Rattle.sheet.proofs.Refusals.{RefusedBelow}
 use Rattle.writing.specs.Answered.{answered}
 use Rattle.writing.specs.Filled.{filled}
 use Rattle.writing.specs.Output.{Output, output, withByte, Written}
 use Rattle.writing.proofs.Filled.{written-whole, filled-front}
-use Rattle.reply.specs.Replies.{refusalLine, longestRefusal, replied, replyInto, Front}
+use Rattle.reply.specs.Replies.{refusalLine, longestRefusal, OneByteRefusal, replied, replyInto, Front}
 
 -- a text that is written from the front of a buffer ends within it
 next-withByte : (p : Output) (byte : ℕ) → p .next ≤ length (p .bytes) → withByte p byte .next ≤ length (withByte p byte .bytes)
@@ -52,7 +51,7 @@ text-front text old {lent} {new} {r} holds e =
 
 -- "prints the division, or one line such as `(refused 4)`": where refusals are numbers of one byte and the buffer has room for their
 -- lines, the front is what an answer is to be replied
-pub replied-front : (a : Answer (List ℕ)) (old : List ℕ) {lent new : List ℕ} {r : ℕ} → RefusedBelow 256 a → longestRefusal ≤ length old
+pub replied-front : (a : Answer (List ℕ)) (old : List ℕ) {lent new : List ℕ} {r : ℕ} → OneByteRefusal a → longestRefusal ≤ length old
     → lent ≡ after filled a old → output new r ≡ replyInto (answered a) lent → take r new ≡ replied a
 replied-front (refused number) old {lent} {new} {r} below room kept e =
     let whole : length (refusalLine number) ≤ length lent = omega (arith, ap length kept, length-refusalLine number (below .below number refl)) in

@@ -1,7 +1,7 @@
 -- What a program writes (document 01, "Parts of the box"): a text, or the line of a refusal. Assumes nothing: these are definitions.
 use mathlib.Core.Path.{_≡_}
 use mathlib.Core.List.{List, _++_, foldl}
-use Prim.Native.Nat.{ℕ, min, _≤_}
+use Prim.Native.Nat.{ℕ, min, _≤_, _<_}
 use lib.ListN.{length, take}
 use Rattle.text.specs.Bytes.{bytes}
 use Rattle.text.specs.Decimal.{decimal}
@@ -16,6 +16,10 @@ refusalLine number = bytes "(refused " ++ decimal number ++ bytes ")\n"
 -- how long it is at most: the number has up to three digits
 abbrev pub longestRefusal : ℕ
 longestRefusal = 14
+
+-- a refusal's number fits one byte, as the code has it
+pub record OneByteRefusal (answer : Answer (List ℕ)) : Type 0 where
+  pub below : (number : ℕ) → answer ≡ refused number → number < 256
 
 -- "prints the division, or one line such as `(refused 4)`": the text that is accepted, or the line of the refusal
 abbrev pub replied : Answer (List ℕ) → List ℕ

@@ -13,7 +13,7 @@ use Rattle.sheet.specs.Limits.{mostAgents, mostItems, within, CountsWithin}
 use Rattle.sheet.specs.Answers.{refused, accepted, require}
 use Rattle.sheet.specs.Tables.{profile}
 use Rattle.sheet.proofs.Limits.{within-bounds, within-both}
-use Rattle.sheet.proofs.Refusals.{RefusedBelow, below-accepted, below-require}
+use Rattle.sheet.proofs.Refusals.{NeverRefused, never-accepted, never-require}
 use Rattle.cut.specs.Share.{maximinShare}
 use Rattle.cut.specs.Outcome.{cuttingOf}
 use Rattle.cut.proofs.Laws.{shares-le-total}
@@ -58,9 +58,9 @@ module _ (n m : ℕ) (table : List (List ℕ)) where
           inl (record { some = agents .0; few = agents .1; some-items = items .0; few-items = items .1 })
 
   -- its refusals are 4, 5 and 9, so that 14 is none of them
-  pub sharing-refusals : (k : ℕ) → 10 ≤ k → RefusedBelow k (sharing n m table)
+  pub sharing-refusals : (k : ℕ) → 10 ≤ k → NeverRefused k (sharing n m table)
   unfolding sharing
   sharing-refusals k above =
-      below-require k 4 (within mostAgents n) _ (omega arith)
-      (below-require k 5 (within mostItems m) _ (omega arith)
-      (below-require k 9 (sharesCovered n (profile n m table)) _ (omega arith) (below-accepted k _)))
+      never-require k 4 (within mostAgents n) _ (λ e. omega arith)
+      (never-require k 5 (within mostItems m) _ (λ e. omega arith)
+      (never-require k 9 (sharesCovered n (profile n m table)) _ (λ e. omega arith) (never-accepted k _)))

@@ -1,31 +1,31 @@
--- Which numbers an answer can refuse with, by the tests on its way. Assumes nothing.
-use mathlib.Core.Path.{_≡_, refl}
+-- Numbers that an answer never refuses with, by the tests on its way. Assumes nothing.
+use mathlib.Core.Path.{_≡_, ap}
 use mathlib.Core.Bool.{Bool, true, false}
 use mathlib.Core.Option.{Option, none, some}
-use Prim.Native.Nat.{ℕ, _<_}
+use Prim.Native.Nat.{ℕ}
 use native.Mathlib.Omega.{arith}
 use Rattle.sheet.specs.Answers.{Answer, refused, accepted, require, andThen, requireSome}
 
--- where the answer is a refusal, its number is below k
-pub record RefusedBelow {A : Type 0} (k : ℕ) (answer : Answer A) : Type 0 where
-  pub below : (number : ℕ) → answer ≡ refused number → number < k
+-- the answer is no refusal with the number k
+pub record NeverRefused {A : Type 0} (k : ℕ) (answer : Answer A) : Type 0 where
+  pub never : answer ≡ refused k → ⊥
 
 module _ {B : Type 0} (k : ℕ) where
-  pub below-accepted : (b : B) → RefusedBelow k (accepted b)
-  below-accepted b = record { below = λ number e. let z : _≡_ {A = ℕ} 0 1 = cc in absurd (omega arith) }
+  pub never-accepted : (b : B) → NeverRefused k (accepted b)
+  never-accepted b = record { never = λ e. let z : _≡_ {A = ℕ} 0 1 = cc in omega arith }
 
-  below-refused : (n : ℕ) → n < k → RefusedBelow {A = B} k (refused n)
-  below-refused n lt = record { below = λ number e. let same : n ≡ number = cc in omega arith }
+  never-refused : (n : ℕ) → (n ≡ k → ⊥) → NeverRefused {A = B} k (refused n)
+  never-refused n other = record { never = λ e. let same : n ≡ k = cc in other same }
 
-  pub below-require : (n : ℕ) (test : Bool) (later : Answer B) → n < k → RefusedBelow k later → RefusedBelow k (require n test later)
-  below-require n true later lt b = b
-  below-require n false later lt b = below-refused n lt
+  pub never-require : (n : ℕ) (test : Bool) (later : Answer B) → (n ≡ k → ⊥) → NeverRefused k later → NeverRefused k (require n test later)
+  never-require n true later other b = b
+  never-require n false later other b = never-refused n other
 
   module _ {A : Type 0} where
-    pub below-requireSome : (n : ℕ) (o : Option A) (next : A → Answer B) → n < k → ((a : A) → RefusedBelow k (next a)) → RefusedBelow k (requireSome n o next)
-    below-requireSome n none next lt b = below-refused n lt
-    below-requireSome n (some a) next lt b = b a
+    pub never-requireSome : (n : ℕ) (o : Option A) (next : A → Answer B) → (n ≡ k → ⊥) → ((a : A) → NeverRefused k (next a)) → NeverRefused k (requireSome n o next)
+    never-requireSome n none next other b = never-refused n other
+    never-requireSome n (some a) next other b = b a
 
-    pub below-andThen : (a : Answer A) (next : A → Answer B) → RefusedBelow k a → ((x : A) → RefusedBelow k (next x)) → RefusedBelow k (andThen a next)
-    below-andThen (refused n) next first b = below-refused n (first .below n refl)
-    below-andThen (accepted x) next first b = b x
+    pub never-andThen : (a : Answer A) (next : A → Answer B) → NeverRefused k a → ((x : A) → NeverRefused k (next x)) → NeverRefused k (andThen a next)
+    never-andThen (refused n) next first b = never-refused n (λ same. first .never (ap refused same))
+    never-andThen (accepted x) next first b = b x

@@ -6,7 +6,7 @@ use native.Mathlib.Omega.{arith}
 use lib.Dec.{leb}
 use lib.ListN.{length}
 use Rattle.sheet.specs.Answers.{refused}
-use Rattle.sheet.proofs.Refusals.{RefusedBelow, below-accepted, below-require, below-andThen}
+use Rattle.sheet.proofs.Refusals.{NeverRefused, never-accepted, never-require, never-andThen}
 use Rattle.reading.specs.Reading.{reading}
 use Rattle.reading.proofs.Refusals.{reading-refusals}
 use Rattle.exact_division.specs.Search.{searching}
@@ -16,12 +16,12 @@ use Rattle.exact_printing.specs.Printing.{printingExact}
 use Rattle.sheet_to_exact.specs.Showing.{exactFrom}
 
 module _ (text : List ℕ) (bundles : List (List ℕ)) (room : ℕ) where
-  exact-refusals : RefusedBelow 14 (exactFrom text bundles room)
+  exact-refusals : NeverRefused 14 (exactFrom text bundles room)
   unfolding exactFrom printingExact
   exact-refusals =
-      below-andThen 14 (reading text) _ (reading-refusals 14 (omega arith) text) (λ sheet.
-      below-andThen 14 (searching (sheet .agents) (sheet .items) (sheet .table)) _ (searching-refusals (sheet .agents) (sheet .items) (sheet .table) 14 (omega arith)) (λ exists.
-      below-require 14 10 (leb (length (exactText exists bundles)) room) _ (omega arith) (below-accepted 14 _)))
+      never-andThen 14 (reading text) _ (reading-refusals 14 (omega arith) text) (λ sheet.
+      never-andThen 14 (searching (sheet .agents) (sheet .items) (sheet .table)) _ (searching-refusals (sheet .agents) (sheet .items) (sheet .table) 14 (omega arith)) (λ exists.
+      never-require 14 10 (leb (length (exactText exists bundles)) room) _ (λ e. omega arith) (never-accepted 14 _)))
 
   pub exact-never-refused-14 : exactFrom text bundles room ≡ refused 14 → ⊥
-  exact-never-refused-14 is = omega (arith, exact-refusals .below 14 is)
+  exact-never-refused-14 is = exact-refusals .never is

@@ -6,7 +6,7 @@ use native.Mathlib.Omega.{arith}
 use lib.Dec.{leb}
 use lib.ListN.{length}
 use Rattle.sheet.specs.Answers.{refused}
-use Rattle.sheet.proofs.Refusals.{RefusedBelow, below-accepted, below-require, below-andThen}
+use Rattle.sheet.proofs.Refusals.{NeverRefused, never-accepted, never-require, never-andThen}
 use Rattle.reading.specs.Reading.{readingFront}
 use Rattle.reading.proofs.Refusals.{readingFront-refusals}
 use Rattle.division_reading.specs.Grammar.{divisionText}
@@ -15,17 +15,17 @@ use Rattle.sheet_to_judgement.specs.AcceptedText.{acceptedText}
 use Rattle.sheet_to_judgement.specs.TextJudged.{textJudged, judgementFrom}
 
 module _ (text : List ℕ) (room : ℕ) where
-  text-refusals : RefusedBelow 14 (textJudged text)
+  text-refusals : NeverRefused 14 (textJudged text)
   unfolding textJudged
   text-refusals =
-      below-andThen 14 (readingFront text) _ (readingFront-refusals 14 (omega arith) text) (λ (sheet, behind).
+      never-andThen 14 (readingFront text) _ (readingFront-refusals 14 (omega arith) text) (λ (sheet, behind).
       judging-refusals (sheet .agents) (sheet .items) (sheet .table) (divisionText (sheet .agents) (sheet .items) behind) 14 (omega arith))
 
-  judgement-refusals : RefusedBelow 14 (judgementFrom text room)
+  judgement-refusals : NeverRefused 14 (judgementFrom text room)
   unfolding judgementFrom
   judgement-refusals =
-      below-andThen 14 (textJudged text) _ text-refusals (λ margins.
-      below-require 14 10 (leb (length (acceptedText margins)) room) _ (omega arith) (below-accepted 14 _))
+      never-andThen 14 (textJudged text) _ text-refusals (λ margins.
+      never-require 14 10 (leb (length (acceptedText margins)) room) _ (λ e. omega arith) (never-accepted 14 _))
 
   pub judgement-never-refused-14 : judgementFrom text room ≡ refused 14 → ⊥
-  judgement-never-refused-14 is = omega (arith, judgement-refusals .below 14 is)
+  judgement-never-refused-14 is = judgement-refusals .never is

@@ -7,7 +7,7 @@ use Prim.Native.Nat.{ℕ, _≤_}
 use native.Mathlib.Omega.{arith}
 use Rattle.sheet.specs.Limits.{CountsWithin}
 use Rattle.sheet.specs.Answers.{refused, accepted}
-use Rattle.sheet.proofs.Refusals.{RefusedBelow, below-accepted, below-require, below-requireSome, below-andThen}
+use Rattle.sheet.proofs.Refusals.{NeverRefused, never-accepted, never-require, never-requireSome, never-andThen}
 use Rattle.shares.specs.Shares.{sharing}
 use Rattle.shares.proofs.Refusals.{sharing-within, sharing-refusals}
 use Rattle.grading.specs.Scale.{marginsByTable}
@@ -28,13 +28,13 @@ module _ (n m : ℕ) (table : List (List ℕ)) (stated : Option Stated) where
   judging-within counts = rw (sharing-within n m table counts)
 
   -- judging has no allowance: its refusals are those of the shares, 11, 12 and 13, and never 14
-  pub judging-refusals : (k : ℕ) → 14 ≤ k → RefusedBelow k (judging n m table stated)
+  pub judging-refusals : (k : ℕ) → 14 ≤ k → NeverRefused k (judging n m table stated)
   unfolding judging
   judging-refusals k above =
-      below-andThen k (sharing n m table) _ (sharing-refusals n m table k (omega arith)) (λ shares.
-      below-requireSome k 11 stated _ (omega arith) (λ d.
-      below-require k 12 (eachInOneOfAll m d) _ (omega arith)
-      (below-require k 13 (figuresTrue n m table d) _ (omega arith) (below-accepted k _))))
+      never-andThen k (sharing n m table) _ (sharing-refusals n m table k (omega arith)) (λ shares.
+      never-requireSome k 11 stated _ (λ e. omega arith) (λ d.
+      never-require k 12 (eachInOneOfAll m d) _ (λ e. omega arith)
+      (never-require k 13 (figuresTrue n m table d) _ (λ e. omega arith) (never-accepted k _))))
 
 module _ (n m : ℕ) (table : List (List ℕ)) (d : Stated) where
   pub judged-not-once : eachInOneOfAll m d ≡ false → judgingRead n m table d ≡ refused 12
