@@ -3,54 +3,27 @@
 -- worth or share has at most eleven digits, a grade one), with other counts of yards, pieces or a cut's piles, or naming a piece not on the
 -- sheet". Assumes nothing: these are definitions.
 use Prim.Native.Nat.{ℕ}
-use mathlib.Core.List.{List, [], _∷_}
+use mathlib.Core.List.{List}
 use mathlib.Core.Option.{Option, none, some}
 use mathlib.Core.Bool.{cond, _&&_}
-use lib.Dec.{leb, ltb}
-use Rattle.sheet.specs.Limits.{mostAgents, mostItems, countDigits, sumDigits}
+use lib.Dec.{leb}
+use Rattle.sheet.specs.Limits.{mostAgents, mostItems, countDigits}
 use Rattle.lexing.specs.Tokens.{Token}
 use Rattle.lexing.specs.Forms.{_>>=_, ended, follow, form, inTurn}
-use Rattle.lexing.specs.Numbers.{isNumber, digitsAfter, numberAfter, followNumber}
-use Rattle.sheet_lines.specs.SheetForms.{beforeItems, beforeTurn, lineEnd}
+use Rattle.lexing.specs.Numbers.{followNumber}
+use Rattle.sheet_lines.specs.SheetForms.{beforeTurn, lineEnd}
 use Rattle.sheet_lines.specs.Grammar.{endLine}
-use Rattle.division_reading.specs.DivisionForms.{beforeCounts, beforeGrade, beforePile, beforeWorth, beforeShare, beforeCut, beforeCutPile, pileEnd}
+unfoldable pub use Rattle.bundle_reading.specs.Bundles.{risingItems, bundleAfter}
+pub use Rattle.division_numbers.specs.Numbers.{gradeDigits}
+unfoldable pub use Rattle.division_numbers.specs.Numbers.{amounts, head}
+use Rattle.division_reading.specs.DivisionForms.{beforePile, beforeCutPile}
 use Rattle.division_reading.specs.Stated.{StatedLine, Stated}
-
--- "a grade one" digit
-abbrev pub gradeDigits : ℕ
-gradeDigits = 1
-
--- "a pile's pieces rise", and none is "a piece not on the sheet": numbers up to a token that is none, each above the one before
-unfoldable pub risingItems : ℕ → ℕ → List Token → Option (List ℕ × List Token)
-risingItems items above [] = some ([], [])
-risingItems items above (t ∷ ts) =
-    let item = digitsAfter 0 t in
-    let later = risingItems items item ts in
-    cond (isNumber countDigits t)
-    (cond (ltb above item && leb item items) (later >>= (λ r. some (item ∷ r .0, r .1))) none)
-    (some ([], t ∷ ts))
-
--- a bundle (pile) behind what it begins with: (pile 2 3), or (2 3) in a cut
-unfoldable pub bundleAfter : List Token → ℕ → List Token → Option (List ℕ × List Token)
-bundleAfter fs items ts₀ = do
-  ts₁ ← follow fs ts₀
-  (bundle, ts₂) ← risingItems items 0 ts₁
-  ts₃ ← follow (form pileEnd) ts₂
-  some (bundle, ts₃)
 
 -- the front of a yard line, in its turn: (yard 1 (pile 1)
 unfoldable pub bundleInTurn : ℕ → ℕ → List Token → Option (List ℕ × List Token)
 bundleInTurn items turn ts₀ = do
   ts₁ ← followNumber (form beforeTurn) countDigits turn ts₀
   bundleAfter (form beforePile) items ts₁
-
--- "a worth or share has at most eleven digits": (worth 5) (share 5) (cut
-unfoldable pub amounts : List Token → Option (ℕ × ℕ × List Token)
-amounts ts₀ = do
-  (worth, ts₁) ← numberAfter (form beforeWorth) sumDigits ts₀
-  (share, ts₂) ← numberAfter (form beforeShare) sumDigits ts₁
-  ts₃ ← follow (form beforeCut) ts₂
-  some (worth, share, ts₃)
 
 -- "its cut of all pieces into N piles": (1) (2 3)
 abbrev pub cutBundles : ℕ → ℕ → List Token → Option (List (List ℕ) × List Token)
@@ -68,15 +41,6 @@ yardLine agents items turn ts₀ = do
 -- one line a yard, from yard 1 upward
 abbrev pub yardLines : ℕ → ℕ → List Token → Option (List StatedLine × List Token)
 yardLines agents items ts = inTurn (yardLine agents items) 1 agents ts
-
--- "The head repeats the counts and adds the grade": (division (yards 2) (pieces 3) (grade 3))
-unfoldable pub head : ℕ → ℕ → List Token → Option (ℕ × List Token)
-head agents items ts₀ = do
-  ts₁ ← followNumber (form beforeCounts) countDigits agents ts₀
-  ts₂ ← followNumber (form beforeItems) countDigits items ts₁
-  (grade, ts₃) ← numberAfter (form beforeGrade) gradeDigits ts₂
-  ts₄ ← follow (form lineEnd) ts₃
-  some (grade, ts₄)
 
 -- "a division as the box prints it, but without the cutters line": "the last line is `(end)`", and nothing stands behind it
 unfoldable pub divisionText : ℕ → ℕ → List Token → Option Stated

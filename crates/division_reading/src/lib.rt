@@ -4,9 +4,12 @@ ghost use mathlib.Core.Option.{none};
 ghost use Rattle.lexing.specs.Places.{tokensAt};
 ghost use Rattle.division_reading.specs.Grammar.{divisionWithin};
 ghost use Rattle.division_reading.specs.Outcome.{blankLine, blankLines, kept};
+use division_numbers::read_head;
+use lexing::forms::Followed;
 use lexing::forms::Number;
 use sheet::Sets;
 use sheet::Sheet;
+use sheet_lines::end::end_line;
 use tokeniser::Cursor;
 
 pub mod forms;
@@ -68,7 +71,7 @@ pub fn read_division(s: &[u8], c: Cursor, agents: usize, items: usize) -> Stated
     if Sheet::ITEMS < items {
         return unread();
     }
-    let Number::Value(grade, first) = lines::read_head(s, c, agents, items) else {
+    let Number::Value(grade, first) = read_head(s, c, agents, items) else {
         return unread();
     };
     let read = lines::yard_lines(s, first, agents, items);
@@ -76,9 +79,9 @@ pub fn read_division(s: &[u8], c: Cursor, agents: usize, items: usize) -> Stated
         return unread();
     }
     let last = read.next;
-    if !lines::end_line(s, last) {
+    let Followed::At(_) = end_line(s, last, true) else {
         return unread();
-    }
+    };
     let lines = read.lines;
     Stated {
         read: true,

@@ -1,57 +1,32 @@
-// The lines of a division.
-ghost use Prim.Native.Nat.{_≤_, _-_, _^_};
+// The lines of the yards of a division.
+ghost use Prim.Native.Nat.{_≤_};
 ghost use mathlib.Core.Path.{_≡_};
 ghost use mathlib.Core.Bool.{false};
 ghost use Rattle.sheet.specs.Limits.{mostAgents, mostItems};
-ghost use Rattle.lexing.specs.Tokens.{tokens};
-ghost use Rattle.lexing.specs.Forms.{ended};
 ghost use Rattle.lexing.specs.Places.{tokensAt};
-ghost use Rattle.lexing.specs.Results.{ReadsNumber};
-ghost use Rattle.sheet_lines.specs.Grammar.{endLine};
-ghost use Rattle.division_reading.specs.Grammar.{risingItems, bundleAfter, bundleInTurn, amounts, cutBundles, yardLine, yardLines, head};
+ghost use Rattle.bundle_reading.specs.Kept.{mapRead, keptBundle};
+ghost use Rattle.bundle_reading.specs.Results.{ReadsBundle};
+ghost use Rattle.division_reading.specs.Grammar.{bundleInTurn, cutBundles, yardLine, yardLines};
 ghost use Rattle.division_reading.specs.Outcome.{keptLine};
-ghost use Rattle.division_reading.specs.internal.Kept.{isRead, mapRead, keptBundle, keptCut, keptLines};
-ghost use Rattle.division_reading.specs.internal.Results.{ReadsBundle, ReadsAmounts, ReadsCut, ReadsLine, ReadsLines};
+ghost use Rattle.division_reading.specs.internal.Kept.{keptCut, keptLines};
+ghost use Rattle.division_reading.specs.internal.Results.{ReadsCut, ReadsLine, ReadsLines};
 use crate::StatedLine;
 use crate::blank_line;
 use crate::blank_lines;
-use crate::forms::BEFORE_COUNTS;
-use crate::forms::BEFORE_CUT;
 use crate::forms::BEFORE_CUT_PILE;
-use crate::forms::BEFORE_GRADE;
 use crate::forms::BEFORE_PILE;
-use crate::forms::BEFORE_SHARE;
-use crate::forms::BEFORE_WORTH;
-use crate::forms::PILE_END;
+use bundle_reading::Bundle;
+use bundle_reading::bundle_after;
+use division_numbers::Amounts;
+use division_numbers::read_amounts;
 use lexing::forms::Followed;
-use lexing::forms::Number;
 use lexing::forms::follow;
 use lexing::forms::follow_number;
-use lexing::forms::number_after;
-use lexing::forms::read_number;
 use sheet::Sets;
 use sheet::Sheet;
-use sheet_lines::forms::BEFORE_ITEMS;
 use sheet_lines::forms::BEFORE_TURN;
-use sheet_lines::forms::LAST_LINE;
 use sheet_lines::forms::LINE_END;
 use tokeniser::Cursor;
-use tokeniser::ended;
-
-// The digits of a grade.
-const GRADE_DIGITS: usize = 1;
-
-// A bundle (pile) as a set, and the place after it.
-pub enum Bundle {
-    Items(u16, Cursor),
-    Missed,
-}
-
-// A worth and a share, and the place after them.
-pub enum Amounts {
-    Values(u64, u64, Cursor),
-    Missed,
-}
 
 // The bundles of a cut, and the place after them.
 pub struct Cut {
@@ -74,57 +49,6 @@ pub struct Lines {
     pub next: Cursor,
 }
 
-// The set of one item.
-fn set_of_item(item: usize) -> u16
-    requires { ⌜ (1 ≤ item) × (item ≤ mostItems) ⌝ }
-    ensures { λ r. ⌜ r ≡ 2 ^ (item - 1) ⌝ }
-{
-    1 << (item - 1)
-}
-
-// The set of items of the sheet that stand here in rising order. No item is above the last, so the loop is left from inside.
-fn rising_items(s: &[u8], c: Cursor, items: usize) -> Bundle
-    requires { ⌜ items ≤ mostItems ⌝ }
-    ensures { λ r. ⌜ ReadsBundle (now (s .entry)) r (keptBundle (risingItems items 0 (tokensAt (now (s .entry)) c))) ⌝ }
-{
-    let mut set: u16 = 0;
-    let mut above: usize = 0;
-    let mut here = c;
-    while above <= items {
-        let Number::Value(number, next) = read_number(s, here, Sheet::COUNT_DIGITS) else {
-            return Bundle::Items(set, here);
-        };
-        let item = number as usize;
-        if item <= above {
-            return Bundle::Missed;
-        }
-        if items < item {
-            return Bundle::Missed;
-        }
-        set += set_of_item(item);
-        above = item;
-        here = next;
-    }
-    Bundle::Missed
-}
-
-// A form's text, and then the items of a bundle to its end.
-fn bundle_after(s: &[u8], c: Cursor, form: &[u8], items: usize) -> Bundle
-    requires { ⌜ items ≤ mostItems ⌝ }
-    ensures { λ r. ⌜ ReadsBundle (now (s .entry)) r (keptBundle (bundleAfter (tokens (now (form .entry))) items (tokensAt (now (s .entry)) c))) ⌝ }
-{
-    let Followed::At(c1) = follow(s, c, form) else {
-        return Bundle::Missed;
-    };
-    let Bundle::Items(set, c2) = rising_items(s, c1, items) else {
-        return Bundle::Missed;
-    };
-    let Followed::At(c3) = follow(s, c2, &PILE_END) else {
-        return Bundle::Missed;
-    };
-    Bundle::Items(set, c3)
-}
-
 // (yard 1 (pile 1)
 fn bundle_in_turn(s: &[u8], c: Cursor, turn: usize, items: usize) -> Bundle
     requires { ⌜ items ≤ mostItems ⌝ }
@@ -134,22 +58,6 @@ fn bundle_in_turn(s: &[u8], c: Cursor, turn: usize, items: usize) -> Bundle
         return Bundle::Missed;
     };
     bundle_after(s, next, &BEFORE_PILE, items)
-}
-
-// (worth 5) (share 5) (cut
-fn read_amounts(s: &[u8], c: Cursor) -> Amounts
-    ensures { λ r. ⌜ ReadsAmounts (now (s .entry)) r (amounts (tokensAt (now (s .entry)) c)) ⌝ }
-{
-    let Number::Value(worth, c1) = number_after(s, c, &BEFORE_WORTH, Sheet::SUM_DIGITS) else {
-        return Amounts::Missed;
-    };
-    let Number::Value(share, c2) = number_after(s, c1, &BEFORE_SHARE, Sheet::SUM_DIGITS) else {
-        return Amounts::Missed;
-    };
-    let Followed::At(c3) = follow(s, c2, &BEFORE_CUT) else {
-        return Amounts::Missed;
-    };
-    Amounts::Values(worth, share, c3)
 }
 
 // As many bundles of a cut as there are agents.
@@ -252,33 +160,4 @@ pub(crate) fn yard_lines(s: &[u8], c: Cursor, agents: usize, items: usize) -> Li
         lines,
         next: here,
     }
-}
-
-// (division (yards 2) (pieces 3) (grade 3))
-pub(crate) fn read_head(s: &[u8], c: Cursor, agents: usize, items: usize) -> Number
-    ensures { λ r. ⌜ ReadsNumber (now (s .entry)) r (head agents items (tokensAt (now (s .entry)) c)) ⌝ }
-{
-    let Followed::At(c1) = follow_number(s, c, &BEFORE_COUNTS, Sheet::COUNT_DIGITS, agents) else {
-        return Number::Missed;
-    };
-    let Followed::At(c2) = follow_number(s, c1, &BEFORE_ITEMS, Sheet::COUNT_DIGITS, items) else {
-        return Number::Missed;
-    };
-    let Number::Value(grade, c3) = number_after(s, c2, &BEFORE_GRADE, GRADE_DIGITS) else {
-        return Number::Missed;
-    };
-    let Followed::At(c4) = follow(s, c3, &LINE_END) else {
-        return Number::Missed;
-    };
-    Number::Value(grade, c4)
-}
-
-// Whether the line `(end)` and the end of the text stand here.
-pub(crate) fn end_line(s: &[u8], c: Cursor) -> bool
-    ensures { λ r. ⌜ r ≡ isRead (endLine ended (tokensAt (now (s .entry)) c)) ⌝ }
-{
-    let Followed::At(next) = follow(s, c, &LAST_LINE) else {
-        return false;
-    };
-    ended(s, next)
 }

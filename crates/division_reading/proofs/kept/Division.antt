@@ -1,6 +1,6 @@
 -- What is kept of a division, part by part. Assumes nothing.
 use mathlib.Core.Path.{_≡_, sym, ap, _∙_}
-use mathlib.Core.Bool.{true, false, and-false}
+use mathlib.Core.Bool.{true, and-false}
 use mathlib.Core.List.{List, map}
 use mathlib.Core.Option.{none, some}
 use Prim.Native.Nat.{ℕ, _≤_, _<_}
@@ -18,11 +18,11 @@ use Rattle.sheet_lines.specs.Grammar.{endLine}
 use Rattle.division_reading.specs.Stated.{StatedLine, Stated}
 use Rattle.division_reading.specs.Grammar.{head, yardLines, divisionText, divisionWithin}
 use Rattle.division_reading.specs.Outcome.{keptLine, blankLine, blankLines, kept}
-use Rattle.division_reading.specs.internal.Kept.{isRead, keptLines}
+use Rattle.division_reading.specs.internal.Kept.{keptLines}
 use Rattle.division_reading.specs.declared.StatedLine as line
 use Rattle.division_reading.specs.declared.Stated as stated
 use Rattle.division_reading.proofs.Shape.{lines-shape}
-use Rattle.division_reading.proofs.kept.MapRead.{ReadFrom, read-from, none-read, unread-none, read-some}
+use Rattle.bundle_reading.proofs.MapRead.{ReadFrom, read-from, none-read}
 
 -- counts beyond the limits
 module _ (agents items : ℕ) (ts : List Token) where
@@ -57,18 +57,17 @@ module _ (agents items : ℕ) (ts₀ : List Token) (few : agents ≤ mostAgents)
       lines-read : ReadFrom (λ ls. sets blankLines 0 (map keptLine ls)) (yardLines agents items ts₁) (lines, ts₂)
       lines-read = read-from _ (yardLines agents items ts₁) (lines, ts₂) l
 
-      pub end-missed : isRead (endLine ended ts₂) ≡ false → divisionWithin agents items ts₀ ≡ none
+      pub end-missed : endLine ended ts₂ ≡ none → divisionWithin agents items ts₀ ≡ none
       unfolding divisionText
-      end-missed e = divisionWithin-text ∙ rw (h, lines-read .read, unread-none (endLine ended ts₂) e)
+      end-missed e = divisionWithin-text ∙ rw (h, lines-read .read, e)
 
       lines-stored : lines ≡ padded mostAgents blankLine (map keptLine (lines-read .value))
       lines-stored =
           let shape = rw (lines-read .read) at (lines-shape agents items ts₁) in
           lines-read .made ∙ sets-blank mostAgents blankLine (map keptLine (lines-read .value)) (omega (arith, shape .0, length-map (lines-read .value) keptLine))
 
-      pub division-read : isRead (endLine ended ts₂) ≡ true → kept-as grade lines ≡ kept (divisionWithin agents items ts₀)
+      pub division-read : (ts₃ : List Token) → endLine ended ts₂ ≡ some ts₃ → kept-as grade lines ≡ kept (divisionWithin agents items ts₀)
       unfolding divisionText
-      division-read e =
-          let end = read-some (endLine ended ts₂) e in
-          let read : divisionWithin agents items ts₀ ≡ some (record { grade = grade; lines = lines-read .value }) = divisionWithin-text ∙ rw (h, lines-read .read, end .1) in
+      division-read ts₃ e =
+          let read : divisionWithin agents items ts₀ ≡ some (record { grade = grade; lines = lines-read .value }) = divisionWithin-text ∙ rw (h, lines-read .read, e) in
           ap (kept-as grade) lines-stored ∙ sym (ap kept read)

@@ -8,8 +8,9 @@ use lib.ListN.{set}
 use Rattle.lexing.specs.Tokens.{Token}
 use Rattle.lexing.specs.Forms.{_>>=_, inTurn}
 use Rattle.lexing.proofs.readers.InTurn.{turn-missed, turn-read, turn-none-left}
-use Rattle.division_reading.specs.internal.Kept.{mapRead, keptAfter}
-use Rattle.division_reading.proofs.kept.MapRead.{read-from, none-read}
+use Rattle.bundle_reading.specs.Kept.{mapRead}
+use Rattle.division_reading.specs.internal.Kept.{keptAfter}
+use Rattle.bundle_reading.proofs.MapRead.{read-from, none-read}
 
 module _ {A B : Type 0} (stored : A → B) (k : ℕ) (places : List B) where
   -- one entry before others

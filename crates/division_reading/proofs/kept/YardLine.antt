@@ -1,4 +1,4 @@
--- What is kept of a bundle and of a yard line, part by part. Assumes nothing.
+-- What is kept of a yard line, part by part. Assumes nothing.
 use mathlib.Core.Path.{_≡_, sym, ap₂, _∙_}
 use mathlib.Core.List.{List, map}
 use mathlib.Core.Option.{Option, none, some}
@@ -11,21 +11,16 @@ use Rattle.lists.proofs.places.Padding.{sets-blank}
 use Rattle.sheet.specs.Limits.{mostAgents}
 use Rattle.sheet.specs.Sets.{setOf}
 use Rattle.lexing.specs.Tokens.{Token}
-use Rattle.lexing.specs.Forms.{_>>=_, form, follow}
+use Rattle.lexing.specs.Forms.{form, follow}
 use Rattle.lexing.proofs.readers.InTurn.{in-turn-length}
 use Rattle.sheet_lines.specs.SheetForms.{lineEnd}
-use Rattle.division_reading.specs.DivisionForms.{beforeCutPile, pileEnd}
-use Rattle.division_reading.specs.Grammar.{risingItems, bundleAfter, bundleInTurn, amounts, cutBundles, yardLine}
+use Rattle.division_reading.specs.DivisionForms.{beforeCutPile}
+use Rattle.division_reading.specs.Grammar.{bundleAfter, bundleInTurn, amounts, cutBundles, yardLine}
 use Rattle.division_reading.specs.Outcome.{keptLine, cutSets}
-use Rattle.division_reading.specs.internal.Kept.{mapRead, keptBundle, keptCut}
+use Rattle.bundle_reading.specs.Kept.{mapRead, keptBundle}
+use Rattle.division_reading.specs.internal.Kept.{keptCut}
 use Rattle.division_reading.specs.declared.StatedLine as line
-use Rattle.division_reading.proofs.kept.MapRead.{ReadFrom, read-from, none-read, map-then}
-
--- a bundle, behind the form that it begins with
-pub bundle-kept : (fs : List Token) (items : ℕ) (ts₀ ts₁ : List Token) → follow fs ts₀ ≡ some ts₁
-    → keptBundle (bundleAfter fs items ts₀) ≡ (keptBundle (risingItems items 0 ts₁) >>= (λ q. follow (form pileEnd) (q .1) >>= (λ ts. some (q .0, ts))))
-unfolding bundleAfter
-bundle-kept fs items ts₀ ts₁ e = rw e (map-then setOf (risingItems items 0 ts₁) (follow (form pileEnd)))
+use Rattle.bundle_reading.proofs.MapRead.{ReadFrom, read-from, none-read}
 
 -- the bundles of a cut in their places
 cut-stored : (agents items : ℕ) (ts : List Token) (cut : List (List ℕ)) (ts′ : List Token) → agents ≤ mostAgents → cutBundles agents items ts ≡ some (cut, ts′)

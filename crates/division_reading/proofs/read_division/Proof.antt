@@ -1,7 +1,6 @@
 -- `read_division` meets its contract: its parts are read one after another, or one of them is missed. Assumes nothing.
 use mathlib.Core.Path.{_≡_, sym, ap, _∙_}
 use mathlib.Core.Option.{some}
-use mathlib.Core.Bool.{true}
 use Prim.Native.Nat.{_≤_}
 use native.Mathlib.Omega.{arith}
 use denote.Ref.{now}
@@ -13,7 +12,7 @@ use Rattle.lexing.specs.Forms.{ended}
 use Rattle.sheet_lines.specs.Grammar.{endLine}
 use Rattle.division_reading.specs.Grammar.{head, yardLines}
 use Rattle.division_reading.specs.Outcome.{kept}
-use Rattle.division_reading.specs.internal.Kept.{isRead, keptLines}
+use Rattle.division_reading.specs.internal.Kept.{keptLines}
 use Rattle.division_reading.proofs.Shape.{grade-below}
 use Rattle.division_reading.proofs.kept.Division.{too-many-agents, too-many-items, head-missed, lines-missed, end-missed, division-read}
 use Rattle.division_reading.proofs.read_division.Statement.{statement}
@@ -29,8 +28,8 @@ counts-point c = c .before .before .before
 abbrev head-point : tie.Else3 → tie.After-grade
 head-point c = c .before .before .before .before
 
-abbrev lines-point : tie.Else4 → tie.Else3
-lines-point c = c .before .before .before
+abbrev lines-point : tie.After-enum-told2 → tie.Else3
+lines-point c = c .before .before .before .before
 
 -- the counts are within the limits
 few-agents : (c : tie.Else2) → start c .args .agents ≤ mostAgents
@@ -50,9 +49,10 @@ lines-read : (c : tie.Else3) → let h = head-point c in
     keptLines (yardLines (a .agents) (a .items) (tokensAt (now (a .s)) (h .grade .given .0 .1 .0))) ≡ some (read .lines, tokensAt (now (a .s)) (read .next))
 lines-read c = rw (not-false (c .before .before .yard-lines .result .read) (c .if3 .left)) at (c .before .before .yard-lines .ensures)
 
-text-ended : (c : tie.Else4) → let l = lines-point c in
-    isRead (endLine ended (tokensAt (now (start (counts-point (head-point l)) .args .s)) (l .before .before .yard-lines .result .next))) ≡ true
-text-ended c = sym (c .before .end-line .ensures) ∙ not-false _ (c .if4 .left)
+text-ended : (c : tie.After-enum-told2) → let l = lines-point c in
+    let s = now (start (counts-point (head-point l)) .args .s) in
+    endLine ended (tokensAt s (l .before .before .yard-lines .result .next)) ≡ some (tokensAt s (c .enum-told2 .given .0 .0))
+text-ended c = (rw (c .enum-told2 .given .1) at (c .before .before .end-line .ensures)) .1
 
 unread-requires : tie.Need-unread-requires
 unread-requires c κs = search needs
@@ -102,15 +102,21 @@ returns-4 c =
 end-line-requires : tie.Need-end-line-requires
 end-line-requires c κs = search needs
 
+enum-told-2 : tie.Need-enum-told-2
+enum-told-2 c = search needs
+
+enum-told-3 : tie.Need-enum-told-3
+enum-told-3 c = search needs
+
 unread-requires-5 : tie.Need-unread-requires-5
 unread-requires-5 c κs = search needs
 
 returns-5 : tie.Need-returns-5
 returns-5 c =
-    let ended = c .before .before in
+    let ended = c .before .before .before in
     let l = ended .before .before in
     let counts = counts-point (head-point l) in
-    let missed = sym (ended .end-line .ensures) ∙ not-true _ (c .before .if4 .taken) in
+    let missed = rw (c .before .enum-told3 .given .1) at (ended .end-line .ensures) in
     c .unread5 .ensures ∙ ap kept (sym (end-missed _ _ _ (few-agents counts) (few-items counts) _ _ (head-read (head-point l)) _ _ (lines-read l) missed))
 
 cast-t13 : tie.Need-cast-t13
@@ -125,7 +131,7 @@ returns-6 c =
     let e = c .before in
     let l = lines-point e in
     let counts = counts-point (head-point l) in
-    division-read _ _ _ (few-agents counts) (few-items counts) _ _ (head-read (head-point l)) _ _ (lines-read l) (text-ended e)
+    division-read _ _ _ (few-agents counts) (few-items counts) _ _ (head-read (head-point l)) _ _ (lines-read l) _ (text-ended e)
 
 pub read-division-spec : {M : Type 1} → statement M
 read-division-spec =
@@ -144,6 +150,8 @@ read-division-spec =
     unread-requires-4
     returns-4
     end-line-requires
+    enum-told-2
+    enum-told-3
     unread-requires-5
     returns-5
     cast-t13

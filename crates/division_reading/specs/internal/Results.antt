@@ -8,21 +8,9 @@ use Prim.Native.Nat.{ℕ}
 use Rattle.lexing.specs.Tokens.{Token}
 use Rattle.lexing.specs.Places.{tokensAt}
 use Rattle.division_reading.specs.declared.StatedLine as stated
-use Rattle.division_reading.specs.declared.lines.Bundle as bundle
-use Rattle.division_reading.specs.declared.lines.Amounts as amounts
 use Rattle.division_reading.specs.declared.lines.Cut.{Cut}
 use Rattle.division_reading.specs.declared.lines.Line.{Line}
 use Rattle.division_reading.specs.declared.lines.Lines.{Lines}
-
--- a bundle
-abbrev pub ReadsBundle : List ℕ → bundle.Bundle → Option (ℕ × List Token) → Type 0
-ReadsBundle s (bundle.the-variants.Items set c) o = o ≡ some (set, tokensAt s c)
-ReadsBundle s bundle.the-variants.Missed o = o ≡ none
-
--- a worth and a share
-abbrev pub ReadsAmounts : List ℕ → amounts.Amounts → Option (ℕ × ℕ × List Token) → Type 0
-ReadsAmounts s (amounts.the-variants.Values worth share c) o = o ≡ some (worth, share, tokensAt s c)
-ReadsAmounts s amounts.the-variants.Missed o = o ≡ none
 
 -- what is read, where something is: else nothing is said of the other fields
 abbrev pub ReadIf : {A : Type 0} → Bool → A → Option A → Type 0

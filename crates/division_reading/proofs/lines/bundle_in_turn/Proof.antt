@@ -1,7 +1,11 @@
 -- `lines::bundle_in_turn` meets its contract: its parts are read one after another, or one of them is missed. Assumes nothing.
+use mathlib.Core.Path.{_≡_}
+use Prim.Native.Nat.{min}
+use native.Mathlib.Omega.{arith}
 use borrow.Author.Needs.{needs}
+use Rattle.sheet.specs.Limits.{mostItems}
 use Rattle.division_reading.specs.Grammar.{bundleInTurn}
-use Rattle.division_reading.specs.internal.Kept.{mapRead}
+use Rattle.bundle_reading.specs.Kept.{mapRead}
 use Rattle.division_reading.proofs.lines.bundle_in_turn.Statement.{statement}
 use Rattle.division_reading.proofs.lines.bundle_in_turn.Tie as tie
 
@@ -30,8 +34,11 @@ bundle-after-requires c κs = search needs
 returns-2 : tie.Need-returns-2
 unfolding bundleInTurn
 returns-2 c =
-    let h = rw (c .before .before .before .next .given .1) at (c .before .before .before .before .before .follow-number .ensures) in
-    rw (h .1) (c .bundle-after .ensures)
+    let followed = c .before .before .before .before .before in
+    let a = followed .before .before .before .args in
+    let h = rw (c .before .before .before .next .given .1) at (followed .follow-number .ensures) in
+    let few : min (a .items) mostItems ≡ a .items = omega arith in
+    rw (h .1) (rw few at (c .bundle-after .ensures))
 
 pub bundle-in-turn-spec : {M : Type 1} → statement M
 bundle-in-turn-spec =

@@ -1,11 +1,11 @@
 -- `lines::read_cut` meets its contract. The loop's invariant: the bundles still due, kept behind those in their places, are the cut. Assumes nothing.
 use mathlib.Core.Path.{_≡_, refl, _∙_}
-use Prim.Native.Nat.{_≤_, _+_, _-_}
+use Prim.Native.Nat.{_≤_, _+_, _-_, min}
 use native.Mathlib.Nat.{sub-zero}
 use native.Mathlib.Omega.{arith}
 use borrow.Author.Needs.{needs}
 use lib.ListN.{length, length-set}
-use Rattle.sheet.specs.Limits.{mostAgents}
+use Rattle.sheet.specs.Limits.{mostAgents, mostItems}
 use Rattle.sheet.specs.Sets.{setOf}
 use Rattle.lexing.specs.Forms.{form, inTurn}
 use Rattle.lexing.specs.Places.{tokensAt}
@@ -44,8 +44,10 @@ returns : tie.Need-returns Inv-loop μ-loop
 returns c =
     let read = c .before .before in
     let turn = read .before .before in
+    let a = turn .before .before .before .args in
+    let few : min (a .items) mostItems ≡ a .items = omega arith in
     turn .before .loop .inv .2
-    ∙ kept-missed _ _ _ _ _ _ _ _ (turn .loop-test .taken) (rw (c .enum-told .given .1) at (read .bundle-after .ensures))
+    ∙ kept-missed _ _ _ _ _ _ _ _ (turn .loop-test .taken) (rw (c .enum-told .given .1, few) at (read .bundle-after .ensures))
 
 mul-sets : tie.Need-mul-sets Inv-loop μ-loop
 mul-sets c = omega arith
@@ -62,11 +64,13 @@ loop-less c = omega arith
 loop-again : tie.Need-loop-again Inv-loop μ-loop
 loop-again c =
     let read = c .before .before .before in
-    let turn = read .before .before in (
+    let turn = read .before .before in
+    let a = turn .before .before .before .args in
+    let few : min (a .items) mostItems ≡ a .items = omega arith in (
       omega arith,
       simp length-set (turn .before .loop .inv .1),
       turn .before .loop .inv .2
-          ∙ kept-read _ _ _ _ _ _ _ _ _ _ (turn .loop-test .taken) (rw (c .before .set .given .1) at (read .bundle-after .ensures)),
+          ∙ kept-read _ _ _ _ _ _ _ _ _ _ (turn .loop-test .taken) (rw (c .before .set .given .1, few) at (read .bundle-after .ensures)),
     )
 
 returns-2 : tie.Need-returns-2 Inv-loop μ-loop

@@ -9,7 +9,8 @@ use borrow.Author.Needs.{needs}
 use borrow.Author.Tests.{not-true, not-false}
 use Rattle.lexing.specs.Places.{tokensAt}
 use Rattle.division_reading.specs.Grammar.{bundleInTurn, amounts, cutBundles}
-use Rattle.division_reading.specs.internal.Kept.{keptBundle, keptCut}
+use Rattle.bundle_reading.specs.Kept.{keptBundle}
+use Rattle.division_reading.specs.internal.Kept.{keptCut}
 use Rattle.division_reading.proofs.kept.YardLine.{bundle-missed, amounts-missed, cut-missed, end-missed, line-read}
 use Rattle.division_reading.proofs.lines.yard_line.Statement.{statement}
 use Rattle.division_reading.proofs.lines.yard_line.Tie as tie

@@ -1,28 +1,42 @@
--- `lines::bundle_after` meets its contract: its parts are read one after another, or one of them is missed. Assumes nothing.
+-- `bundle_after` meets its contract: its parts are read one after another, or one of them is missed. Assumes nothing.
 use mathlib.Core.Path.{_≡_, _∙_}
 use mathlib.Core.Option.{some}
 use denote.Ref.{now}
+use Prim.Native.Nat.{min}
+use native.Mathlib.Omega.{arith}
 use borrow.Author.Needs.{needs}
+use Rattle.sheet.specs.Limits.{mostItems}
 use Rattle.lexing.specs.Tokens.{tokens}
 use Rattle.lexing.specs.Forms.{follow}
 use Rattle.lexing.specs.Places.{tokensAt}
-use Rattle.division_reading.specs.Grammar.{risingItems, bundleAfter}
-use Rattle.division_reading.specs.internal.Kept.{mapRead, keptBundle}
-use Rattle.division_reading.proofs.kept.YardLine.{bundle-kept}
-use Rattle.division_reading.proofs.lines.bundle_after.Statement.{statement}
-use Rattle.division_reading.proofs.lines.bundle_after.Tie as tie
+use Rattle.bundle_reading.specs.Bundles.{risingItems, bundleAfter}
+use Rattle.bundle_reading.specs.Kept.{mapRead, keptBundle}
+use Rattle.bundle_reading.proofs.BundleKept.{bundle-kept}
+use Rattle.bundle_reading.proofs.bundle_after.Statement.{statement}
+use Rattle.bundle_reading.proofs.bundle_after.Tie as tie
+
+-- the start of the code, from the point where the form has been followed
+abbrev start : tie.After-c1 → tie.Start
+start c = c .before .before .before .before .before .before
 
 -- what the form says, where it has been followed, and what the items say, where they have been read
-form-followed : (c : tie.After-c1) → let a = c .before .before .before .before .before .args in
+form-followed : (c : tie.After-c1) → let a = start c .args in
     follow (tokens (now (a .form))) (tokensAt (now (a .s)) (a .c)) ≡ some (tokensAt (now (a .s)) (c .c1 .given .0 .0))
 form-followed c = (rw (c .c1 .given .1) at (c .before .before .follow .ensures)) .1
 
 abbrev form-point : tie.After-set → tie.After-c1
 form-point c = c .before .before .before .before
 
-items-read : (c : tie.After-set) → let a = form-point c .before .before .before .before .before .args in
-    keptBundle (risingItems (a .items) 0 (tokensAt (now (a .s)) (form-point c .c1 .given .0 .0))) ≡ some (c .set .given .0 .0, tokensAt (now (a .s)) (c .set .given .0 .1 .0))
-items-read c = rw (c .set .given .1) at (c .before .before .rising-items .ensures)
+-- the items that are counted
+counted : (c : tie.After-c1) → c .before .before .before .lesser .result ≡ min (start c .args .items) mostItems
+counted c = c .before .before .before .lesser .ensures
+
+items-read : (c : tie.After-set) → let a = start (form-point c) .args in
+    keptBundle (risingItems (min (a .items) mostItems) 0 (tokensAt (now (a .s)) (form-point c .c1 .given .0 .0))) ≡ some (c .set .given .0 .0, tokensAt (now (a .s)) (c .set .given .0 .1 .0))
+items-read c = rw (c .set .given .1, counted (form-point c)) at (c .before .before .rising-items .ensures)
+
+lesser-requires : tie.Need-lesser-requires
+lesser-requires c κs = search needs
 
 follow-requires : tie.Need-follow-requires
 follow-requires c κs = search needs
@@ -38,7 +52,7 @@ unfolding bundleAfter mapRead
 returns c = rw (rw (c .enum-told .given .1) at (c .before .before .follow .ensures))
 
 rising-items-requires : tie.Need-rising-items-requires
-rising-items-requires c κs = search needs
+rising-items-requires c κs = omega arith
 
 enum-known-set : tie.Need-enum-known-set
 enum-known-set c = search needs
@@ -48,8 +62,9 @@ enum-told-2 c = search needs
 
 returns-2 : tie.Need-returns-2
 returns-2 c =
-    let missed = rw (c .enum-told2 .given .1) at (c .before .before .rising-items .ensures) in
-    bundle-kept _ _ _ _ (form-followed (c .before .before .before .before)) ∙ rw missed
+    let followed = c .before .before .before .before in
+    let missed = rw (c .enum-told2 .given .1, counted followed) at (c .before .before .rising-items .ensures) in
+    bundle-kept _ _ _ _ (form-followed followed) ∙ rw missed
 
 slice-aggregate-follow : tie.Need-slice-aggregate-follow
 slice-aggregate-follow c = search needs
@@ -79,6 +94,7 @@ pub bundle-after-spec : {M : Type 1} → statement M
 bundle-after-spec =
     tie.close
     (tie.spec
+    lesser-requires
     follow-requires
     enum-known-c1
     enum-told

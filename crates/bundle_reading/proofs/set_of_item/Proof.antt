@@ -1,12 +1,12 @@
--- `lines::set_of_item` meets its contract: the bit of an item stays within the width. Assumes nothing.
+-- `set_of_item` meets its contract: the bit of an item stays within the width. Assumes nothing.
 use Prim.Native.Nat.{_-_, _^_, _≤_, _<_}
 use native.Mathlib.Nat.{one-mul, mod-eq-of-lt}
 use native.Mathlib.Omega.{arith}
 use borrow.Author.Needs.{needs}
 use Rattle.sheet.specs.Limits.{mostItems}
-use Rattle.division_reading.proofs.kept.RisingItems.{item-power}
-use Rattle.division_reading.proofs.lines.set_of_item.Statement.{statement}
-use Rattle.division_reading.proofs.lines.set_of_item.Tie as tie
+use Rattle.bundle_reading.proofs.ItemsInTurn.{item-power}
+use Rattle.bundle_reading.proofs.set_of_item.Statement.{statement}
+use Rattle.bundle_reading.proofs.set_of_item.Tie as tie
 
 sub-result : tie.Need-sub-result
 sub-result c = search needs

@@ -1,4 +1,4 @@
--- `lines::read_head` meets its contract: its parts are read one after another, or one of them is missed. Assumes nothing.
+-- `read_head` meets its contract: its parts are read one after another, or one of them is missed. Assumes nothing.
 use mathlib.Core.Path.{_≡_}
 use mathlib.Core.List.{List}
 use mathlib.Core.Option.{some}
@@ -10,10 +10,10 @@ use Rattle.lexing.specs.Forms.{form}
 use Rattle.lexing.specs.Numbers.{numberAfter, followNumber}
 use Rattle.lexing.specs.Places.{tokensAt}
 use Rattle.sheet_lines.specs.SheetForms.{beforeItems}
-use Rattle.division_reading.specs.DivisionForms.{beforeCounts, beforeGrade}
-use Rattle.division_reading.specs.Grammar.{gradeDigits, head}
-use Rattle.division_reading.proofs.lines.read_head.Statement.{statement}
-use Rattle.division_reading.proofs.lines.read_head.Tie as tie
+use Rattle.division_numbers.specs.Forms.{beforeCounts, beforeGrade}
+use Rattle.division_numbers.specs.Numbers.{gradeDigits, head}
+use Rattle.division_numbers.proofs.read_head.Statement.{statement}
+use Rattle.division_numbers.proofs.read_head.Tie as tie
 
 -- the points of the code where each part has been read, from that of the next
 abbrev agents-point : tie.After-c2 → tie.After-c1

@@ -1,22 +1,12 @@
 -- What is kept comes from what was read, and a form may follow. Assumes nothing.
 use mathlib.Core.Path.{_≡_, refl, sym, ap}
-use mathlib.Core.Bool.{true, false, true≢false}
 use mathlib.Core.List.{List}
 use mathlib.Core.Option.{Option, none, some, Option·some-injective}
 use Prim.Native.Nat.{ℕ}
 use native.Mathlib.Omega.{arith}
 use Rattle.lexing.specs.Tokens.{Token}
 use Rattle.lexing.specs.Forms.{_>>=_}
-use Rattle.division_reading.specs.internal.Kept.{isRead, mapRead}
-
--- nothing is read, or something
-pub unread-none : {A : Type 0} (o : Option A) → isRead o ≡ false → o ≡ none
-unread-none none e = refl
-unread-none (some a) e = absurd (true≢false e)
-
-pub read-some : {A : Type 0} (o : Option A) → isRead o ≡ true → (a : A) × (o ≡ some a)
-read-some none e = absurd (true≢false (sym e))
-read-some (some a) e = (a, refl)
+use Rattle.bundle_reading.specs.Kept.{mapRead}
 
 module _ {A B : Type 0} (f : A → B) where
   pub record ReadFrom (o : Option (A × List Token)) (q : B × List Token) : Type 0 where

@@ -1,4 +1,4 @@
--- `lines::read_amounts` meets its contract: its parts are read one after another, or one of them is missed. Assumes nothing.
+-- `read_amounts` meets its contract: its parts are read one after another, or one of them is missed. Assumes nothing.
 use denote.Ref.{now}
 use Rattle.sheet.specs.Limits.{sumDigits}
 use Rattle.lexing.specs.Forms.{form}
@@ -6,11 +6,11 @@ use Rattle.lexing.specs.Numbers.{numberAfter}
 use Rattle.lexing.specs.Places.{tokensAt}
 use Rattle.lexing.specs.Results.{ReadsNumber}
 use Rattle.lexing.specs.declared.forms.Number.the-variants.{Value}
-use Rattle.division_reading.specs.DivisionForms.{beforeWorth, beforeShare}
-use Rattle.division_reading.specs.Grammar.{amounts}
+use Rattle.division_numbers.specs.Forms.{beforeWorth, beforeShare}
+use Rattle.division_numbers.specs.Numbers.{amounts}
 use borrow.Author.Needs.{needs}
-use Rattle.division_reading.proofs.lines.read_amounts.Statement.{statement}
-use Rattle.division_reading.proofs.lines.read_amounts.Tie as tie
+use Rattle.division_numbers.proofs.read_amounts.Statement.{statement}
+use Rattle.division_numbers.proofs.read_amounts.Tie as tie
 
 -- the point of the code where the first number has been read, from that of the second
 abbrev worth-point : tie.After-share → tie.After-worth

@@ -14,8 +14,9 @@ use Rattle.lexing.specs.Tokens.{Token}
 use Rattle.lexing.specs.Forms.{_>>=_}
 use Rattle.lexing.specs.Numbers.{isNumber, digitsAfter, number}
 use Rattle.lexing.proofs.readers.Tested.{number-passed}
-use Rattle.division_reading.specs.Grammar.{risingItems}
-use Rattle.division_reading.specs.internal.Kept.{mapRead, keptBundle, keptItemsAfter}
+use Rattle.bundle_reading.specs.Bundles.{risingItems}
+use Rattle.bundle_reading.specs.Kept.{mapRead, keptBundle}
+use Rattle.bundle_reading.specs.internal.Kept.{keptItemsAfter}
 
 module _ (items above : ℕ) where
   -- no number is left

@@ -1,4 +1,4 @@
--- `lines::rising_items` meets its contract. The loop's invariant: the items still to be read, kept behind those of the set, are the bundle. Assumes nothing.
+-- `rising_items` meets its contract. The loop's invariant: the items still to be read, kept behind those of the set, are the bundle. Assumes nothing.
 use mathlib.Core.Path.{_≡_, refl, ap, _∙_}
 use mathlib.Core.Option.{some}
 use denote.Ref.{now}
@@ -8,11 +8,12 @@ use borrow.Author.Needs.{needs}
 use Rattle.sheet.specs.Limits.{countDigits}
 use Rattle.lexing.specs.Numbers.{number}
 use Rattle.lexing.specs.Places.{tokensAt}
-use Rattle.division_reading.specs.Grammar.{risingItems}
-use Rattle.division_reading.specs.internal.Kept.{mapRead, keptBundle, keptItemsAfter}
-use Rattle.division_reading.proofs.kept.RisingItems.{no-item, item-not-above, item-not-on-sheet, item-rises, none-kept, item-kept, all-kept, higher-item, item-power}
-use Rattle.division_reading.proofs.lines.rising_items.Statement.{statement}
-use Rattle.division_reading.proofs.lines.rising_items.Tie as tie
+use Rattle.bundle_reading.specs.Bundles.{risingItems}
+use Rattle.bundle_reading.specs.Kept.{mapRead, keptBundle}
+use Rattle.bundle_reading.specs.internal.Kept.{keptItemsAfter}
+use Rattle.bundle_reading.proofs.ItemsInTurn.{no-item, item-not-above, item-not-on-sheet, item-rises, none-kept, item-kept, all-kept, higher-item, item-power}
+use Rattle.bundle_reading.proofs.rising_items.Statement.{statement}
+use Rattle.bundle_reading.proofs.rising_items.Tie as tie
 
 abbrev Inv-loop : tie.InvT-loop
 Inv-loop s items set₀ above₀ here₀ set above here =

@@ -1,0 +1,1 @@
+-- No laws: the proofs of the functions stand in the folders of their names.
