@@ -11,7 +11,7 @@ use Rattle.maximin.specs.Share.{maximinShare, maximinPartition}
 use Rattle.cut.specs.Outcome.{wholeCut, stoppedCut, placed, outcome}
 use Rattle.cut.specs.declared.Answer.the-variants.{Share, Stopped}
 use Rattle.cut.specs.declared.Outcome.{Outcome}
-use Rattle.walking.specs.declared.Search.{Search}
+use Rattle.walk_steps.specs.declared.Search.{Search}
 use Rattle.cut.proofs.Whole.{bestLeast, bestPartition, foundWith}
 
 module _ (n : ℕ) (values : List ℕ) (allowance : ℕ) where

@@ -18,14 +18,14 @@ use Rattle.growth.proofs.Listed.{listed-grows, growth-inhabited}
 use Rattle.maximin.specs.Share.{bundleValue, leastBundle, maximinShare, maximinPartition}
 use Rattle.cut.specs.Outcome.{lookedAt, placed}
 use Rattle.reach.specs.Loads.{loadOf, leastLoaded}
-use Rattle.walking.specs.Scan.{searched}
+use Rattle.walk_steps.specs.Scan.{searched}
 use Rattle.walking.specs.Walk.{reached, start, walked, searching}
 use Rattle.walking.proofs.Limits.{within-searchable}
 use Rattle.cut.specs.internal.Allowed.{Allowed}
-use Rattle.walking.specs.declared.Search.{Search}
+use Rattle.walk_steps.specs.declared.Search.{Search}
 use Rattle.cut.proofs.Allowance.{greatest-growth, greatest-looked-at, firstBest-looked-at}
-use Rattle.walking.proofs.growth.Scan.{scan-best, scan-goal}
-use Rattle.walking.proofs.growth.Searched.{searchOf, searched-all, searched-cong}
+use Rattle.walk_steps.proofs.Scan.{scan-best, scan-goal}
+use Rattle.walk_steps.proofs.Searched.{searchOf, searched-all, searched-cong}
 
 module _ (n : ℕ) (values : List ℕ) (allowance : ℕ) where
   -- the best least bundle of the growth partitions looked at, and the first partition that reaches it

@@ -20,11 +20,11 @@ use Rattle.lists.proofs.dictionary.Listed.{branches-append}
 use Rattle.growth.specs.Growth.{growthFrom}
 use Rattle.maximin.specs.Share.{bundleValue}
 use Rattle.reach.specs.Loads.{loadOf, leastLoaded}
-use Rattle.walking.specs.Scan.{looked, searched, passing}
+use Rattle.walk_steps.specs.Scan.{looked, searched, passing}
 use Rattle.reach.specs.Pruning.{greatestValue, isOutOfReach}
 use Rattle.walking.specs.Walk.{Walkable, reached, walked}
-use Rattle.walking.specs.declared.Search.{Search}
-use Rattle.walking.proofs.growth.Searched.{searched-append, searched-nil, searched-spent, searched-all, searched-idle, searched-branch}
+use Rattle.walk_steps.specs.declared.Search.{Search}
+use Rattle.walk_steps.proofs.Searched.{searched-append, searched-nil, searched-spent, searched-all, searched-idle, searched-branch}
 use Rattle.walking.proofs.growth.Enough.{leastLoaded-cons}
 use Rattle.reach.proofs.pruning.OutOfReach.{isOutOfReach-below-goal}
 use Rattle.reach.proofs.loads.Stored.{loaded, loaded-stored}

@@ -18,11 +18,11 @@ use Rattle.lists.proofs.dictionary.Listed.{branch-of, in-branches}
 use Rattle.growth.specs.Growth.{growthFrom}
 use Rattle.maximin.specs.Share.{bundleValue}
 use Rattle.reach.specs.Loads.{loadOf, leastLoaded}
-use Rattle.walking.specs.Scan.{passing}
+use Rattle.walk_steps.specs.Scan.{passing}
 use Rattle.walking.specs.Walk.{reached}
-use Rattle.walking.specs.declared.Search.{Search}
-use Rattle.walking.proofs.growth.Scan.{scan-covers}
-use Rattle.walking.proofs.growth.Searched.{searchOf, searched-spent, searched-all, searched-idle}
+use Rattle.walk_steps.specs.declared.Search.{Search}
+use Rattle.walk_steps.proofs.Scan.{scan-covers}
+use Rattle.walk_steps.proofs.Searched.{searchOf, searched-spent, searched-all, searched-idle}
 use Rattle.walking.proofs.Steps.{walkedUpTo, walkedUpTo-more, next as nextOf}
 
 module _ (bundles at used : ℕ) (loads partition : List ℕ) (ceiling : ℕ) (search : Search) (value : ℕ) (rest : List ℕ) where

@@ -1,3 +1,2 @@
--- The walk over the growth partitions: what it keeps, and what it finds.
-pub mod Scan
+-- The walk over the growth partitions: where it may stand, and what it finds.
 pub mod Walk

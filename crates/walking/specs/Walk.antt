@@ -1,7 +1,7 @@
 -- What a walk finds, and where it may stand. Assumes nothing: these are definitions.
 use mathlib.Core.Path.{_≡_}
 use mathlib.Core.Bool.{Bool, cond, _&&_}
-use mathlib.Core.List.{List, []}
+use mathlib.Core.List.{List}
 use Prim.Native.Nat.{ℕ, _+_, _-_, _≤_, min}
 use lib.Dec.{leb}
 use lib.ListN.{length, getD}
@@ -11,8 +11,9 @@ use Rattle.lists.specs.Sums.{total}
 use Rattle.sheet.specs.Limits.{mostAgents, mostItems, greatestSum, within}
 use Rattle.growth.specs.Growth.{growthFrom}
 use Rattle.reach.specs.Loads.{loadOf, leastLoaded}
-use Rattle.walking.specs.Scan.{searched}
-use Rattle.walking.specs.declared.Search.{Search}
+use Rattle.walk_steps.specs.Scan.{searched}
+use Rattle.walk_steps.specs.Branches.{countAt}
+use Rattle.walk_steps.specs.declared.Search.{Search}
 
 -- where a walk may stand: `at` items are laid, the values are still to be laid, and all of them together on one bundle are no greater than
 -- the limit
@@ -23,10 +24,6 @@ pub record Walkable (values : List ℕ) (bundles at used : ℕ) (loads : List �
   pub opened : used ≤ bundles
   pub places : length loads ≡ mostAgents
   pub sums-bounded : (i : ℕ) → getD loads i 0 + total values ≤ greatestSum
-
--- the count for `left` more items where the bundles 1 .. used are in use
-abbrev pub countAt : List (List ℕ) → ℕ → ℕ → ℕ
-countAt counts left used = getD (getD counts left []) used 0
 
 -- each place for at most so many more items holds the number of growth partitions
 abbrev pub Counted : ℕ → ℕ → List (List ℕ) → Type 0

@@ -1,55 +1,30 @@
 // The walk over the growth partitions, depth first and in dictionary order, that keeps the first best as far as its allowance goes.
 ghost use mathlib.Core.Path.{_≡_};
-ghost use mathlib.Core.Bool.{true};
-ghost use Prim.Native.Nat.{_+_, _-_, _≤_, _<_, min, max};
-ghost use Rattle.sheet.specs.Limits.{mostAgents, mostItems, greatestSum};
+ghost use Prim.Native.Nat.{_-_, _≤_, min};
+ghost use Rattle.sheet.specs.Limits.{mostAgents, mostItems};
 ghost use lib.ListN.{length};
 ghost use Rattle.lists.specs.Lists.{zeros};
 ghost use Rattle.reach.specs.Pruning.{GreatestFrom};
-ghost use Rattle.walking.specs.Scan.{looked, passing};
-ghost use Rattle.walking.specs.Walk.{Walkable, countAt, Counted, start, walked, walkedFrom, searchable, searching, searchingAfter};
+ghost use Rattle.walking.specs.Walk.{Walkable, Counted, start, walked, walkedFrom, searchable, searching, searchingAfter};
 use growth::Counts;
 use growth::counts_for;
 use reach::loads::Loads;
 use reach::loads::least;
 use reach::pruning::is_out_of_reach;
-use reach::pruning::lesser;
 use reach::pruning::supplied;
 use sheet::Sheet;
 use sheet::is_within;
-
-// The bundle of each item of the set in rising order, 0 after the last.
-pub type Partition = [u8; Sheet::ITEMS];
+use walk_steps::Best;
+use walk_steps::Partition;
+use walk_steps::Search;
+use walk_steps::greater;
+use walk_steps::is_wasted;
+use walk_steps::look;
+use walk_steps::open_bundles;
+use walk_steps::pass;
 
 // A number for each item.
 type Values = [u64; Sheet::ITEMS];
-
-// The first best partition so far, and the least bundle that a partition has to reach to take its place.
-pub struct Best {
-    pub goal: u64,
-    pub partition: Partition,
-}
-
-// A search that is under way: the best so far, and how many growth partitions it may still look at.
-pub struct Search {
-    pub best: Best,
-    pub allowance: u32,
-}
-
-// The number of bundles that the next item may go to: those in use and the next new one.
-fn open_bundles(used: usize, bundles: usize) -> usize
-    requires { ⌜ used ≤ bundles ⌝ }
-    ensures { λ r. ⌜ r ≡ min (used + 1) bundles ⌝ }
-{
-    if used < bundles { used + 1 } else { bundles }
-}
-
-// The greater of two numbers.
-fn greater(a: usize, b: usize) -> usize
-    ensures { λ r. ⌜ r ≡ max a b ⌝ }
-{
-    if a < b { b } else { a }
-}
 
 // In each place the greatest of the values from there on, and at least 1.
 fn greatest_from_each(values: &[u64]) -> Values
@@ -67,61 +42,6 @@ fn greatest_from_each(values: &[u64]) -> Values
         greatest[i] = most;
     }
     greatest
-}
-
-// The search once it looked at the partition, whose least bundle is `least`: that is the best where it reaches the goal, counted up to
-// the ceiling.
-fn look(search: Search, least: u64, ceiling: u64, partition: Partition) -> Search
-    requires { ⌜ (1 ≤ search .allowance) × (least ≤ greatestSum) ⌝ }
-    ensures { λ r. ⌜ r ≡ looked (min least ceiling) partition search ⌝ }
-{
-    let low = lesser(least, ceiling);
-    let best = search.best;
-    let allowance = search.allowance - 1;
-    if low < best.goal {
-        return Search { best, allowance };
-    }
-    let better = Best {
-        goal: low + 1,
-        partition,
-    };
-    Search {
-        best: better,
-        allowance,
-    }
-}
-
-// The search once the growth partitions of `left` more items, where `used` bundles are in use, are passed over: none reaches the goal.
-// An allowance that ends among them ends there.
-fn pass(counts: &Counts, left: usize, used: usize, search: Search) -> Search
-    requires { ⌜ (left ≤ mostItems) × (used ≤ mostAgents) ⌝ }
-    ensures { λ r. ⌜ r ≡ passing (countAt (now (counts .entry)) left used) search ⌝ }
-{
-    let best = search.best;
-    let allowance = search.allowance;
-    let count = counts[left][used];
-    if allowance < count {
-        return Search { best, allowance: 0 };
-    }
-    Search {
-        best,
-        allowance: allowance - count,
-    }
-}
-
-// Whether an item is wasted on a bundle that is in use, not the first, and has the goal already: on the first bundle it serves as well, and
-// that is tried before.
-fn is_wasted(search: Search, load: u64, bundle: usize, used: usize) -> bool
-    ensures { λ r. ⌜ (r ≡ true → (1 ≤ bundle) × (bundle < used) × (search .best .goal ≤ load)) ⌝ }
-{
-    let best = search.best;
-    if bundle < 1 {
-        return false;
-    }
-    if used <= bundle {
-        return false;
-    }
-    best.goal <= load
 }
 
 // The search once it went through the growth partitions that go on from the first `at` places of `partition`; the values are still to be

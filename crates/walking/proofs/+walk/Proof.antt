@@ -15,11 +15,14 @@ use Rattle.lists.proofs.places.Passing.{empty, first-and-rest}
 use Rattle.lists.proofs.sums.LeastOf.{leastOf-le}
 use Rattle.growth.specs.Growth.{growthFrom}
 use Rattle.lists.specs.Sums.{total, leastOf}
-use Rattle.sheet.specs.Limits.{mostAgents}
+use Rattle.sheet.specs.Limits.{mostAgents, mostItems, greatestSum}
 use Rattle.reach.specs.Loads.{loadOf, inUse}
 use Rattle.reach.specs.Pruning.{greatestValue, GreatestFrom, isOutOfReach}
-use Rattle.walking.specs.Scan.{looked, passing}
-use Rattle.walking.specs.Walk.{Walkable, countAt, walked}
+use Rattle.walk_steps.specs.Scan.{looking, passing}
+use Rattle.walk_steps.specs.Branches.{countAt}
+use Rattle.walk_steps.proofs.Searched.{looking-some}
+use Rattle.walk_steps.proofs.Branches.{wasted-bounds}
+use Rattle.walking.specs.Walk.{Walkable, walked}
 use Rattle.reach.proofs.pruning.Greatest.{greatestFrom-next}
 use Rattle.walking.proofs.Steps.{walkedUpTo, walked-spent, walked-out-of-reach, walked-end, walked-all, walkedUpTo-none, walkedUpTo-next, walkable-next}
 use Rattle.walking.proofs.Wasted.{walkedUpTo-wasted}
@@ -28,13 +31,13 @@ use borrow.Fn.PlainCycle.{Measures, is, falls, and}
 use Rattle.walking.proofs.walk.Reads as walk
 use Rattle.walking.proofs.walk.Kinds as walk-kinds
 use Rattle.walking.proofs.+walk.Lts-walk as lts
-use Rattle.walking.proofs.look.Reads as look-reads
-use Rattle.walking.proofs.greater.Reads as greater-reads
+use Rattle.walk_steps.proofs.look.Reads as look-reads
+use Rattle.walk_steps.proofs.greater.Reads as greater-reads
 use Rattle.reach.proofs.pruning.is_out_of_reach.Reads as is-out-of-reach-reads
-use Rattle.walking.proofs.is_wasted.Reads as is-wasted-reads
+use Rattle.walk_steps.proofs.is_wasted.Reads as is-wasted-reads
 use Rattle.reach.proofs.loads.least.Reads as least-reads
-use Rattle.walking.proofs.open_bundles.Reads as open-bundles-reads
-use Rattle.walking.proofs.pass.Reads as pass-reads
+use Rattle.walk_steps.proofs.open_bundles.Reads as open-bundles-reads
+use Rattle.walk_steps.proofs.pass.Reads as pass-reads
 use Rattle.walking.proofs.+walk.{statement}
 use Rattle.walking.proofs.+walk.Tie.{close}
 
@@ -101,8 +104,14 @@ module _ (t : ℕ) where
   bundle-inside l more = let r = start l .pre .1 .0 in omega (arith, r .few-bundles, r .places)
 
   -- the place of the table that is read holds the number of the growth partitions
-  counted : (s : Start) → let a = s .args in countAt (a .counts .now) (length (a .values .now)) (a .used) ≡ length (growthFrom (a .bundles) (a .used) (length (a .values .now)))
-  counted s = let a = s .args in s .pre .1 .1 (length (a .values .now)) (a .used) (omega arith) (s .pre .1 .0 .opened)
+  counted : (s : Start) (left used : ℕ) → let a = s .args in left ≤ length (a .values .now) → used ≤ a .bundles
+      → countAt (a .counts .now) (min left mostItems) (min used mostAgents) ≡ length (growthFrom (a .bundles) used left)
+  counted s left used few in-use =
+      let a = s .args in
+      let r = s .pre .1 .0 in
+      let items : min left mostItems ≡ left = omega (arith, r .few) in
+      let bundles : min used mostAgents ≡ used = omega (arith, r .few-bundles) in
+      ap₂ (countAt (a .counts .now)) items bundles ∙ s .pre .1 .1 left used few in-use
 
   returns : lts.Need-returns (claims t) (walk-at t) walk.Post Inv-loop μ-loop
   returns c =
@@ -113,13 +122,7 @@ module _ (t : ℕ) where
   least-requires c κs = tt
 
   look-requires : lts.Need-look-requires (claims t) (walk-at t) walk.Post Inv-loop μ-loop
-  look-requires c κs =
-      let some-left = c .before .before .before in
-      let s = some-left .before .before .before in
-      let r = s .pre .1 .0 in (
-        omega (arith, some-left .if1 .left),
-        omega (arith, r .sums-bounded 0, c .before .least .ensures, leastOf-le (loadOf (s .args .loads .now)) (inUse (s .args .bundles)) 1 (omega arith) (omega arith)),
-      )
+  look-requires c κs = tt
 
   returns-2 : lts.Need-returns-2 (claims t) (walk-at t) walk.Post Inv-loop μ-loop
   returns-2 c =
@@ -129,10 +132,16 @@ module _ (t : ℕ) where
       let r = s .pre .1 .0 in
       let none : a .values .now ≡ [] = empty (a .values .now) (omega arith) in
       let all : inUse (a .bundles) ≡ a .bundles = omega (arith, r .some-bundles, r .few-bundles) in
+      let least = leastOf (loadOf (a .loads .now)) (a .bundles) in
+      let is-least : c .before .before .least .result ≡ least = c .before .before .least .ensures ∙ ap (leastOf (loadOf (a .loads .now))) all in
+      let small : least ≤ greatestSum = omega (arith, r .sums-bounded 0, leastOf-le (loadOf (a .loads .now)) (a .bundles) 1 (omega arith) (r .some-bundles)) in
+      let low : min (min (c .before .before .least .result) (a .ceiling)) greatestSum ≡ min least (a .ceiling) = omega (arith, is-least) in
+      let some : 1 ≤ a .search .allowance = omega (arith, some-left .if1 .left) in
       rw none
       (c .look .ensures
-      ∙ ap (λ least. looked (min least (a .ceiling)) (a .partition .now) (a .search)) (c .before .before .least .ensures ∙ ap (leastOf (loadOf (a .loads .now))) all)
-      ∙ sym (walked-end (a .bundles) (a .at) (a .used) (a .loads .now) (a .partition .now) (a .ceiling) (a .search) (omega (arith, some-left .if1 .left))))
+      ∙ ap (λ v. looking v (a .partition .now) (a .search)) low
+      ∙ looking-some (min least (a .ceiling)) (a .partition .now) (a .search) some
+      ∙ sym (walked-end (a .bundles) (a .at) (a .used) (a .loads .now) (a .partition .now) (a .ceiling) (a .search) some))
 
   mul-is-out-of-reach : lts.Need-mul-is-out-of-reach (claims t) (walk-at t) walk.Post Inv-loop μ-loop
   mul-is-out-of-reach c = omega arith
@@ -144,7 +153,7 @@ module _ (t : ℕ) where
   is-out-of-reach-requires c κs = tt
 
   pass-requires : lts.Need-pass-requires (claims t) (walk-at t) walk.Post Inv-loop μ-loop
-  pass-requires c κs = let r = c .before .before .before .before .before .before .before .before .pre .1 .0 in (omega (arith, r .few), omega (arith, r .opened, r .few-bundles))
+  pass-requires c κs = tt
 
   returns-3 : lts.Need-returns-3 (claims t) (walk-at t) walk.Post Inv-loop μ-loop
   returns-3 c =
@@ -158,7 +167,7 @@ module _ (t : ℕ) where
       ap (λ k. getD (a .greatest .now) k 0) (sym (add-zero (a .at))) ∙ s .pre .1 .2 0 (omega (arith, tested .before .before .before .if2 .left)) in
       let all : a .bundles ≡ min (a .bundles) mostAgents = omega (arith, r .few-bundles) in
       c .pass .ensures
-      ∙ ap (λ k. passing k (a .search)) (counted s)
+      ∙ ap (λ k. passing k (a .search)) (counted s (length values) (a .used) (omega arith) (r .opened))
       ∙ sym (walked-out-of-reach (a .bundles) (a .at) (a .used) (a .loads .now) (a .partition .now) (a .ceiling) (a .search) values most (omega (arith, r .few)) (omega (arith, r .sums-bounded 0)) (omega (arith, is-greatest))
       (ap (λ n. isOutOfReach (a .ceiling) (a .search .best .goal) (loadOf (a .loads .now)) n values most) all ∙ sym (tested .is-out-of-reach .ensures) ∙ c .before .if3 .taken))
 
@@ -175,7 +184,7 @@ module _ (t : ℕ) where
   part-rest-end c = omega arith
 
   open-bundles-requires : lts.Need-open-bundles-requires (claims t) (walk-at t) walk.Post Inv-loop μ-loop
-  open-bundles-requires c κs = omega arith
+  open-bundles-requires c κs = tt
 
   loop-holds : lts.Need-loop-holds (claims t) (walk-at t) walk.Post Inv-loop μ-loop
   loop-holds c =
@@ -199,10 +208,7 @@ module _ (t : ℕ) where
   is-wasted-requires c κs = tt
 
   pass-requires-2 : lts.Need-pass-requires-2 (claims t) (walk-at t) walk.Post Inv-loop μ-loop
-  pass-requires-2 c κs =
-      let l = c .before .before .before .before in
-      let r = start l .pre .1 .0 in
-      (omega (arith, r .few, ap length (values-are l)), omega (arith, r .opened, r .few-bundles, c .before .before .greater .ensures))
+  pass-requires-2 c κs = tt
 
   add-loaded : lts.Need-add-loaded (claims t) (walk-at t) walk.Post Inv-loop μ-loop
   add-loaded c =
@@ -280,11 +286,11 @@ module _ (t : ℕ) where
             (c .if4 .came),
         ⊎-elim
             (λ w.
-            let wasted = c .before .is-wasted .ensures (w .0 .taken) in
+            let wasted = wasted-bounds (found .best .goal) (getD loaded bundle 0) bundle (a .used) (sym (c .before .is-wasted .ensures) ∙ w .0 .taken) in
             w .4
             ∙ w .1 .ensures
-            ∙ ap (λ used. passing (countAt (a .counts .now) (length rest) used) found) opened
-            ∙ ap (λ count. passing count found) (s .pre .1 .1 (length rest) (max (a .used) (bundle + 1)) few in-use)
+            ∙ ap (λ used. passing (countAt (a .counts .now) (min (length rest) mostItems) (min used mostAgents)) found) opened
+            ∙ ap (λ count. passing count found) (counted s (length rest) (max (a .used) (bundle + 1)) few in-use)
             ∙ ap (passing (length (growthFrom (a .bundles) (max (a .used) (bundle + 1)) (length rest)))) tried
             ∙ sym (walkedUpTo-wasted (a .bundles) (a .at) (a .used) (a .loads .now) (a .partition .now) (a .ceiling) (a .search) (next l) rest bundle (wasted .0) (wasted .1) (r .opened)
             (omega (arith, wasted .2, nth-next 0 (a .loads .now) bundle, ap (λ loads. getD loads bundle 0) same-loads, ap (λ f. f .best .goal) tried))))

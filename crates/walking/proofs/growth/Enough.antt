@@ -19,10 +19,10 @@ use Rattle.lists.proofs.sums.Exchange.{exchange, exchange-left, exchange-within
 use Rattle.growth.specs.Growth.{growthFrom}
 use Rattle.maximin.specs.Partitions.{partitions}
 use Rattle.reach.specs.Loads.{leastLoaded}
-use Rattle.walking.specs.Scan.{scan}
+use Rattle.walk_steps.specs.Scan.{scan}
 use Rattle.maximin.specs.Share.{bundleValue}
-use Rattle.walking.specs.declared.Best.{Best}
-use Rattle.walking.proofs.growth.Scan.{scan-append, scan-map, scan-covers, scan-idle}
+use Rattle.walk_steps.specs.declared.Best.{Best}
+use Rattle.walk_steps.proofs.Scan.{scan-append, scan-map, scan-covers, scan-idle}
 use Rattle.reach.proofs.loads.Stored.{loaded}
 use Rattle.maximin.proofs.Partitions.{in-partitions, partition-within}
 use Rattle.walking.proofs.growth.Exchange.{leastLoaded-exchange}

@@ -12,10 +12,10 @@ use Rattle.growth.proofs.Listed.{growth-inhabited}
 use Rattle.maximin.specs.Partitions.{partitions}
 use Rattle.maximin.specs.Share.{bundleValue, leastBundle, maximinShare, maximinPartition}
 use Rattle.reach.specs.Loads.{leastLoaded}
-use Rattle.walking.specs.Scan.{scan}
-use Rattle.walking.specs.declared.Best.{Best}
+use Rattle.walk_steps.specs.Scan.{scan}
+use Rattle.walk_steps.specs.declared.Best.{Best}
 use Rattle.maximin.proofs.Partitions.{partitions-inhabited}
-use Rattle.walking.proofs.growth.Scan.{bestOf, scan-best}
+use Rattle.walk_steps.proofs.Scan.{bestOf, scan-best}
 use Rattle.walking.proofs.growth.Enough.{scan-growth}
 
 module _ (n : ℕ) (values : List ℕ) (some : 1 ≤ n) where

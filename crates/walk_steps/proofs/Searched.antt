@@ -3,18 +3,23 @@ use mathlib.Core.Path.{_≡_, refl, sym, ap, ap₂, fun-ext, _∙_}
 use mathlib.Core.List.{List, [], _∷_, _++_, map, List·Memᴰ as Mem, List·Memᴰ·head, List·Memᴰ·tail}
 use Prim.Native.Nat.{ℕ, _-_, _≤_, _<_}
 use native.Mathlib.Nat.{sub-add-eq, sub-zero, zero-sub}
+use borrow.Author.Tests.{le-leb}
 use lib.ListN.{length, take, length-append, length-map}
 use lib.Seq.{take-nil, take-all}
 use Rattle.lists.specs.Dictionary.{branches}
 use Rattle.lists.proofs.places.Fronts.{take-append, take-mem}
 use Rattle.lists.proofs.places.Passing.{take-map}
-use Rattle.walking.specs.Scan.{keep, scan, searched, passing}
-use Rattle.walking.specs.declared.Best.{Best}
-use Rattle.walking.specs.declared.Search.{Search}
-use Rattle.walking.proofs.growth.Scan.{scan-append, scan-map, scan-idle}
+use Rattle.walk_steps.specs.Scan.{keep, looked, looking, scan, searched, passing}
+use Rattle.walk_steps.specs.declared.Best.{Best}
+use Rattle.walk_steps.specs.declared.Search.{Search}
+use Rattle.walk_steps.proofs.Scan.{scan-append, scan-map, scan-idle}
 
 abbrev pub searchOf : Best → ℕ → Search
 searchOf best allowance = record { best = best; allowance = allowance }
+
+-- an allowance that is not spent looks at one more
+pub looking-some : (v : ℕ) (l : List ℕ) (s : Search) → 1 ≤ s .allowance → looking v l s ≡ looked v l s
+looking-some v l s some = rw (le-leb 1 (s .allowance) some) refl
 
 module _ (v : List ℕ → ℕ) (h : List ℕ → List ℕ) (s : Search) where
   pub searched-append : (xs ys : List (List ℕ)) → searched v h s (xs ++ ys) ≡ searched v h (searched v h s xs) ys

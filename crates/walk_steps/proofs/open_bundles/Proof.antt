@@ -1,8 +1,8 @@
--- `walking::open_bundles` meets its contract. Assumes nothing.
+-- `walk_steps::open_bundles` meets its contract. Assumes nothing.
 use native.Mathlib.Omega.{arith}
 use borrow.Author.Needs.{needs}
-use Rattle.walking.proofs.open_bundles.Statement.{statement}
-use Rattle.walking.proofs.open_bundles.Tie as tie
+use Rattle.walk_steps.proofs.open_bundles.Statement.{statement}
+use Rattle.walk_steps.proofs.open_bundles.Tie as tie
 
 add-result : tie.Need-add-result
 add-result c = search needs

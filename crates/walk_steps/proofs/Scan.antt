@@ -10,8 +10,8 @@ use borrow.Author.Tests.{leb-true, leb-false, lt-leb, le-leb, eq-eqb, ne-eqb}
 use Rattle.lists.specs.Dictionary.{greatest, firstAt}
 use Rattle.lists.proofs.Cases.{lt-or-ge}
 use Rattle.lists.proofs.dictionary.First.{le-greatest}
-use Rattle.walking.specs.Scan.{keep, scan}
-use Rattle.walking.specs.declared.Best.{Best}
+use Rattle.walk_steps.specs.Scan.{keep, scan}
+use Rattle.walk_steps.specs.declared.Best.{Best}
 
 module _ (v : ℕ) (l : List ℕ) (b : Best) where
   pub keep-new : b .goal ≤ v → keep v l b ≡ record { goal = v + 1; partition = l }
