@@ -1,4 +1,3 @@
--- The grade of an allocation, as `grades` defines it. `internal` has what the contracts of private functions cite.
+-- The grade of an allocation, as `grades` defines it.
 pub mod Grade
 pub mod Scale
-pub mod internal

@@ -8,7 +8,7 @@ ghost use Rattle.sheet.specs.Limits.{mostAgents, mostItems, InUse};
 ghost use Rattle.sheet.specs.Sets.{itemsOf};
 ghost use Rattle.stated_truth.specs.Lines.{statedLine, leastTo, lineTrueTo, linesTrue, figuresTrueBy};
 use division_reading::StatedLine;
-use grading::value_in_use;
+use grade_amounts::value_in_use;
 use sheet::Row;
 use sheet::Sets;
 use sheet::Sheet;

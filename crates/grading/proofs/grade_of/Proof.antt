@@ -11,9 +11,9 @@ use Rattle.sheet.specs.Tables.{profile}
 use Rattle.sheet.specs.Amounts.{eachAtMost}
 use Rattle.margins.specs.Margins.{noneNegative}
 use Rattle.grades.specs.Grade.{envyFree, proportional, maximinFair, grade, gradeIn}
-use Rattle.grading.specs.internal.Compared.{compared}
-use Rattle.grading.specs.declared.Compared.{Compared}
-use Rattle.grading.proofs.Tests.{envyFree-compared, proportional-compared, maximinFair-compared}
+use Rattle.grade_amounts.specs.Compared.{compared}
+use Rattle.grade_amounts.specs.declared.Compared.{Compared}
+use Rattle.grade_amounts.proofs.Tests.{envyFree-compared, proportional-compared, maximinFair-compared}
 use borrow.Author.Needs.{needs}
 use Rattle.grading.proofs.grade_of.Statement.{statement}
 use Rattle.grading.proofs.grade_of.Tie as tie
@@ -46,9 +46,7 @@ fourth c = third (c .before .before)
 
 -- what is compared
 told : (c : tie.After-compare) → let s = c .before .before in c .compare .result ≡ compared (agentsOf s) (rowsOf s) (bundlesOf s)
-told c =
-    let s = c .before .before in
-    c .compare .ensures ∙ ap (λ n. compared n (profile n (min (s .args .items) mostItems) (s .args .table)) (bundlesOf s)) (c .before .lesser .ensures)
+told c = c .compare .ensures
 
 last-told : (c : tie.After-compare) → min (c .before .lesser .result) mostAgents ≡ agentsOf (c .before .before)
 last-told c = omega (arith, c .before .lesser .ensures)

@@ -18,7 +18,7 @@ use Rattle.sheet.specs.Amounts.{SmallAmounts}
 use Rattle.sheet.proofs.valuing.Tables.{valuation-profile}
 use Rattle.sheet.proofs.sets.Bundles.{nth-items}
 use Rattle.grades.specs.Grade.{worthsIn}
-use Rattle.grading.specs.internal.Compared.{ownValue}
+use Rattle.grade_amounts.specs.Compared.{ownValue}
 use Rattle.grading.proofs.worths_of.Statement.{statement}
 use Rattle.grading.proofs.worths_of.Tie as tie
 

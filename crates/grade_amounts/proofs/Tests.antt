@@ -10,7 +10,7 @@ use Rattle.sheet.specs.Limits.{mostAgents}
 use Rattle.sheet.specs.Amounts.{eachAtMost}
 use Rattle.sheet.proofs.amounts.Comparing.{eachAtMost-all}
 use Rattle.grades.specs.Grade.{valueTo, envyFree, proportional, maximinFair}
-use Rattle.grading.specs.internal.Compared.{ownValue, greatestValue, multipleOfOwn, totalValue, compared}
+use Rattle.grade_amounts.specs.Compared.{ownValue, greatestValue, multipleOfOwn, totalValue, compared}
 
 module _ (n : ℕ) (valuations bundles : List (List ℕ)) where
   own-read : (i : ℕ) → Mem i (range 1 n) → nth 0 (compared n valuations bundles .own) i ≡ ownValue n valuations bundles i

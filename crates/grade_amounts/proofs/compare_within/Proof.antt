@@ -1,4 +1,4 @@
--- `grading::compare` meets its contract. The loop's invariant: the amounts of the first i agents are in their places. Assumes nothing.
+-- `grade_amounts::compare_within` meets its contract. The loop's invariant: the amounts of the first i agents are in their places. Assumes nothing.
 use mathlib.Core.Path.{_≡_, refl, sym, ap, ap₂, _∙_}
 use mathlib.Core.List.{List, [], map}
 use Prim.Native.Nat.{ℕ, _+_, _-_, _*_, _≤_, min}
@@ -18,10 +18,10 @@ use Rattle.sheet.specs.Tables.{valuation, allValues, profile}
 use Rattle.sheet.proofs.valuing.Tables.{valuation-profile}
 use Rattle.sheet.proofs.sets.Bundles.{nth-items}
 use Rattle.sheet.proofs.sets.Remainders.{value-all}
-use Rattle.grading.specs.internal.Compared.{ownValue, greatestValue, multipleOfOwn, totalValue, compared}
-use Rattle.grading.specs.declared.Compared.{Compared}
-use Rattle.grading.proofs.compare.Statement.{statement}
-use Rattle.grading.proofs.compare.Tie as tie
+use Rattle.grade_amounts.specs.Compared.{ownValue, greatestValue, multipleOfOwn, totalValue, compared}
+use Rattle.grade_amounts.specs.declared.Compared.{Compared}
+use Rattle.grade_amounts.proofs.compare_within.Statement.{statement}
+use Rattle.grade_amounts.proofs.compare_within.Tie as tie
 
 abbrev Inv-loop : tie.InvT-loop
 Inv-loop agents items table bundles all own₀ greatest₀ multiples₀ totals₀ i₀ own greatest multiples totals i =
@@ -157,8 +157,8 @@ returns c =
         (record { own = own′; greatest = greatest′; multiples = multiples′; totals = totals′ })
     made p q r s = rw (p, q, r, s)
 
-pub compare-spec : {M : Type 1} → statement M
-compare-spec =
+pub compare-within-spec : {M : Type 1} → statement M
+compare-within-spec =
     tie.close
     (tie.spec
     Inv-loop

@@ -1,4 +1,4 @@
--- `grading::greatest_in_use` meets its contract. The loop's invariant: the greatest value of the first i bundles is found. Assumes nothing.
+-- `grade_amounts::greatest_in_use` meets its contract. The loop's invariant: the greatest value of the first i bundles is found. Assumes nothing.
 use mathlib.Core.Path.{_≡_, refl, sym, ap, ap₂, _∙_}
 use mathlib.Core.List.{List, [], map}
 use Prim.Native.Nat.{ℕ, _-_, _≤_, min, max}
@@ -12,8 +12,8 @@ use Rattle.sheet.specs.Sets.{itemsOf}
 use Rattle.sheet.specs.Valuations.{value}
 use Rattle.sheet.specs.Tables.{allValues}
 use Rattle.sheet.proofs.sets.Bundles.{nth-items}
-use Rattle.grading.proofs.greatest_in_use.Statement.{statement}
-use Rattle.grading.proofs.greatest_in_use.Tie as tie
+use Rattle.grade_amounts.proofs.greatest_in_use.Statement.{statement}
+use Rattle.grade_amounts.proofs.greatest_in_use.Tie as tie
 
 -- the value of bundle j
 abbrev seen : List ℕ → ℕ → List ℕ → ℕ → ℕ

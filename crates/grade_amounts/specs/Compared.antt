@@ -6,7 +6,7 @@ use Rattle.lists.specs.Sums.{total, greatestOf}
 use Rattle.sheet.specs.Limits.{mostAgents}
 use Rattle.sheet.specs.Tables.{valuation}
 use Rattle.grades.specs.Grade.{valueTo}
-use Rattle.grading.specs.declared.Compared.{Compared}
+use Rattle.grade_amounts.specs.declared.Compared.{Compared}
 
 module _ (n : ℕ) (valuations bundles : List (List ℕ)) where
   -- the value of agent i's own bundle

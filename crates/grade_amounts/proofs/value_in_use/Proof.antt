@@ -1,4 +1,4 @@
--- `grading::value_in_use` meets its contract: the set of all items in use, and one, is a power of 2. Assumes nothing.
+-- `grade_amounts::value_in_use` meets its contract: the set of all items in use, and one, is a power of 2. Assumes nothing.
 use mathlib.Core.Path.{_≡_, ap, _∙_}
 use Prim.Native.Nat.{_+_, _%_, _^_, _≤_, min}
 use native.Mathlib.Nat.{pow-le-pow-right}
@@ -9,8 +9,8 @@ use Rattle.sheet.specs.Valuations.{value}
 use Rattle.sheet.proofs.sets.Ranges.{setOf-upTo}
 use Rattle.sheet.proofs.sets.Remainders.{value-remainder}
 use borrow.Author.Needs.{needs}
-use Rattle.grading.proofs.value_in_use.Statement.{statement}
-use Rattle.grading.proofs.value_in_use.Tie as tie
+use Rattle.grade_amounts.proofs.value_in_use.Statement.{statement}
+use Rattle.grade_amounts.proofs.value_in_use.Tie as tie
 
 -- the number of the sets of items in use
 sets-told : (c : tie.After-all-items) → let m = min (c .before .args .items) mostItems in (c .all-items .result + 1 ≡ 2 ^ m) × (2 ^ m ≤ 2 ^ mostItems)

@@ -1,0 +1,2 @@
+-- The tests of the grade by the amounts compared.
+pub mod Tests

@@ -1,0 +1,2 @@
+-- What the tests of the grade compare.
+pub mod Compared
