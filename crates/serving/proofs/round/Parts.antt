@@ -1,6 +1,6 @@
 -- The parts of one round of agents that a sheet can have: who waits and who is served rises again, and the bundles are those of a sheet.
 -- Assumes nothing.
-use mathlib.Core.Path.{_≡_, refl, ap, ap₂, _∙_}
+use mathlib.Core.Path.{_≡_, refl, _∙_}
 use mathlib.Core.Bool.{Bool}
 use mathlib.Core.List.{List, []}
 use mathlib.Core.List.{Sublistᴰ as Sublist, Sublistᴰ·trans as sublist-trans}
@@ -16,13 +16,11 @@ use Rattle.sheet.specs.Sets.{itemsOf, setOf}
 use Rattle.sheet.specs.Listed.{numbered}
 use Rattle.sheet.proofs.sets.Sets.{items-setOf}
 use Rattle.sheet.proofs.sets.Ranges.{setOf-below}
-use Rattle.matching.specs.Matching.{waitingSet, matching, cutterOf, bundleNumbers, waitingOf, servedOf, freeOf, chosenOf}
+use Rattle.matching.specs.Matching.{waitingSet, matching, waitingOf, servedOf, freeOf, chosenOf}
 use Rattle.matching.proofs.Serving.{waiting-sublist}
 use Rattle.matching.proofs.Serving as matching
-use Rattle.matching.proofs.Parts.{servedOf-sublist, freeOf-sublist, chosenOf-within, chosenOf-few, waitingOf-cong, servedOf-cong, chosenOf-cong}
-use Rattle.matching.proofs.Congruence.{Agree}
+use Rattle.matching.proofs.Parts.{servedOf-sublist, freeOf-sublist, chosenOf-within, chosenOf-few}
 use Rattle.serving.specs.Serving.{agentsIn, servingOf}
-use Rattle.serving.specs.declared.Serving.{Serving}
 use Rattle.serving.proofs.round.AgentsLeft.{agentsIn-items}
 
 module _ (suits : ℕ → ℕ → Bool) {agents : List ℕ} (rising : Sublist agents (range 1 mostAgents)) where
@@ -67,12 +65,3 @@ module _ (suits : ℕ → ℕ → Bool) {agents : List ℕ} (rising : Sublist ag
 pub servingOf-none : (suits : ℕ → ℕ → Bool) → servingOf suits (agentsIn 0) ≡ record { cutter = 0; served = numbered []; chosen = numbered []; waiting = 0 }
 unfolding servingOf itemsOf waitingSet matching
 servingOf-none suits = refl
-
--- a round goes by what suits the agents left with its bundles, and by nothing else
-pub servingOf-cong : (s t : ℕ → ℕ → Bool) (agents : List ℕ) → Agree s t agents (bundleNumbers agents) → servingOf s agents ≡ servingOf t agents
-unfolding servingOf
-servingOf-cong s t agents same =
-    let made : List ℕ → List ℕ → List ℕ → Serving = λ served chosen waiting.
-    record { cutter = cutterOf agents; served = numbered served; chosen = numbered chosen; waiting = setOf waiting } in
-    ap₂ (λ served chosen. made served chosen (waitingOf s agents)) (servedOf-cong s t agents same) (chosenOf-cong s t agents same)
-    ∙ ap (made (servedOf t agents) (chosenOf t agents)) (waitingOf-cong s t agents same)
