@@ -4,6 +4,7 @@
 mod allowances;
 mod due;
 mod rows;
+pub mod samples;
 
 use crate::allowance::ALLOWANCE;
 use crate::kinds::Kinds;
