@@ -176,7 +176,7 @@ mod tests {
     use crate::met::Met;
     use crate::printer::shareout;
     use crate::reader::Sheet;
-    use crate::samples::{texts_of_j, SHEETS};
+    use crate::samples::{SHEETS, TEXTS_OF_J};
     use crate::strict::strict_text;
 
     /// Answers as the library should.
@@ -186,9 +186,9 @@ mod tests {
 
     fn samples_pass(entry: Entry) -> bool {
         let mut harness = Harness::<Met>::new(entry);
-        let sheets = SHEETS.iter().map(|(_, text, _)| text.as_bytes().to_vec());
-        let mut texts = sheets.chain(texts_of_j().into_iter().map(|(text, _)| text));
-        texts.all(|text| harness.check(&text, Buffers::Several).is_ok())
+        let sheets = SHEETS.iter().map(|(_, text, _)| text);
+        let mut texts = sheets.chain(TEXTS_OF_J.iter().map(|(text, _)| text));
+        texts.all(|text| harness.check(text.as_bytes(), Buffers::Several).is_ok())
     }
 
     /// Does as the library should, and then makes a change if the answer is this one.

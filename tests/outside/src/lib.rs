@@ -10,6 +10,7 @@ pub mod damage;
 pub mod division;
 pub mod divisions;
 pub mod exact;
+pub mod expected;
 pub mod families;
 pub mod generator;
 pub mod grades;

@@ -5,7 +5,7 @@ use crate::damage;
 use crate::generator::Generator;
 use crate::harness::{Buffers, Harness, Solver};
 use crate::reader::Sheet;
-use crate::samples::{texts_of_j, SHEETS, TYPED};
+use crate::samples::{SHEETS, TEXTS_OF_J, TYPED};
 use crate::strict::strict_text;
 use crate::tables::any;
 use crate::typed;
@@ -43,7 +43,7 @@ pub fn samples<S: Solver>(harness: &mut Harness<S>) -> Passed {
 pub fn sample_texts() -> impl Iterator<Item = Vec<u8>> {
     let sheets = SHEETS.iter().map(|(_, text, _)| text.as_bytes().to_vec());
     let typed = TYPED.iter().map(|(_, text, _)| text.as_bytes().to_vec());
-    let of_j = texts_of_j().into_iter().map(|(text, _)| text);
+    let of_j = TEXTS_OF_J.iter().map(|(text, _)| text.as_bytes().to_vec());
     sheets.chain(typed).chain(of_j).chain([Vec::new()])
 }
 

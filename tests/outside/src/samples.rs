@@ -1,9 +1,5 @@
-//! The sample sheets of document 01, two that are even, the three players of document 000, and sheets as
-//! yards type them, read from the folder `samples`.
-
-use crate::limits::LONGEST_TEXT;
-use crate::reader::Sheet;
-use crate::strict::strict_text;
+//! The sample sheets of document 01, two that are even, the three players of document 000, sheets as yards
+//! type them, and the texts of sample j, read from the folder `samples`.
 
 macro_rules! sample {
     ($name:literal) => {
@@ -55,30 +51,21 @@ const LARGER: &str = "(sheet (yards 3) (pieces 12))\n\
     (end)\n";
 
 /// The texts of sample j as order 3 moved it, each with its refusal's number, or 0 if it passes.
-pub fn texts_of_j() -> Vec<(Vec<u8>, u8)> {
-    let counts = [(6, 3, 0), (0, 3, 4), (7, 3, 4), (2, 12, 0), (2, 0, 5), (2, 13, 5)];
-    let first_marks =
-        [("4294967295", 0), ("4294967296", 8), ("9999999999", 8), ("10000000000", 6), ("05", 6)];
-    let mut texts = Vec::new();
-    for (yards, pieces, refusal) in counts {
-        texts.push((text_of_ones(yards, pieces, "1"), refusal));
-    }
-    for (mark, refusal) in first_marks {
-        texts.push((text_of_ones(2, 3, mark), refusal));
-    }
-    texts.push((text_of_ones(7, 3, "5000000000"), 4));
-    let mut too_long = text_of_ones(2, 3, "1");
-    too_long.resize(LONGEST_TEXT + 1, b'\n');
-    texts.push((too_long, 1));
-    texts
-}
-
-/// A sheet with these counts whose marks are all 1 but the first.
-fn text_of_ones(yards: usize, pieces: usize, first: &str) -> Vec<u8> {
-    let text = strict_text(&Sheet { yards, pieces, marks: vec![vec![1; pieces]; yards] });
-    let text = String::from_utf8(text).expect("a strict text has ASCII bytes only");
-    text.replacen("(yard 1 (marks 1", &format!("(yard 1 (marks {first}"), 1).into_bytes()
-}
+pub const TEXTS_OF_J: [(&str, u8); 13] = [
+    (sample!("j/6_yards"), 0),
+    (sample!("j/0_yards"), 4),
+    (sample!("j/7_yards"), 4),
+    (sample!("j/12_pieces"), 0),
+    (sample!("j/0_pieces"), 5),
+    (sample!("j/13_pieces"), 5),
+    (sample!("j/mark_4294967295"), 0),
+    (sample!("j/mark_4294967296"), 8),
+    (sample!("j/mark_9999999999"), 8),
+    (sample!("j/mark_10000000000"), 6),
+    (sample!("j/mark_05"), 6),
+    (sample!("j/7_yards_and_a_large_mark"), 4),
+    (sample!("j/4097_bytes"), 1),
+];
 
 #[cfg(test)]
 mod tests {
