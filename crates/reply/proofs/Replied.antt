@@ -1,36 +1,18 @@
 -- What a program writes for an answer is the text, or the line of the refusal; how long that line is. Assumes nothing.
-use mathlib.Core.Path.{_≡_, refl, sym, ap, subst, _∙_}
-use mathlib.Core.Bool.{Bool, true, false}
-use mathlib.Core.List.{List, [], _∷_, foldl}
+use mathlib.Core.Path.{_≡_, refl, ap, _∙_}
+use mathlib.Core.List.{List}
 use Prim.Native.Nat.{ℕ, _≤_, _<_}
 use native.Mathlib.Omega.{arith}
-use lib.Dec.{ltb}
-use lib.ListN.{length, take, drop, length-append, length-set, length-take}
+use lib.ListN.{length, take, drop, length-append, length-take}
 use lib.Seq.{take-at}
-use borrow.Author.Tests.{ltb-true}
 use Rattle.text.proofs.Decimal.{decimal-length}
 use Rattle.sheet.specs.Answers.{Answer, refused, accepted, after}
 use Rattle.writing.specs.Answered.{answered}
 use Rattle.writing.specs.Filled.{filled}
-use Rattle.writing.specs.Output.{Output, output, withByte, Written}
+use Rattle.writing.specs.Output.{output, Written}
+use Rattle.writing.proofs.Written.{written-within}
 use Rattle.writing.proofs.Filled.{written-whole, filled-front}
 use Rattle.reply.specs.Replies.{refusalLine, longestRefusal, OneByteRefusal, replied, replyInto, Front}
-
--- a text that is written from the front of a buffer ends within it
-next-withByte : (p : Output) (byte : ℕ) → p .next ≤ length (p .bytes) → withByte p byte .next ≤ length (withByte p byte .bytes)
-next-withByte p byte inside = step (ltb (p .next) (length (p .bytes))) refl
-  where
-    step : (b : Bool) → ltb (p .next) (length (p .bytes)) ≡ b → withByte p byte .next ≤ length (withByte p byte .bytes)
-    step true e = rw e (omega (arith, ltb-true (p .next) (length (p .bytes)) e, length-set (p .bytes) (p .next) byte))
-    step false e = rw e inside
-
-next-foldl-withByte : (p : Output) (text : List ℕ) → p .next ≤ length (p .bytes) → foldl withByte p text .next ≤ length (foldl withByte p text .bytes)
-next-foldl-withByte p [] inside = inside
-next-foldl-withByte p (byte ∷ text) inside = next-foldl-withByte (withByte p byte) text (next-withByte p byte inside)
-
-written-within : {old text new : List ℕ} {next : ℕ} → Written (output old 0) text (output new next) → next ≤ length new
-written-within {old} {text} {new} {next} w =
-    subst (λ p. p .next ≤ length (p .bytes)) (sym (w .bytewise)) (next-foldl-withByte (output old 0) text (omega arith))
 
 -- what is within a buffer is a front of it
 pub within-front : (n : ℕ) (bytes : List ℕ) → n ≤ length bytes → Front n bytes

@@ -7,7 +7,7 @@ use native.Mathlib.Omega.{arith}
 use lib.ListN.{length, length-append}
 use borrow.Author.Tests.{leb-true}
 use Rattle.lists.specs.Lists.{all}
-use Rattle.lists.proofs.members.Each.{AllOfLength}
+use Rattle.lists.proofs.members.Each.{Each, AllOfLength}
 use Rattle.text.specs.Decimal.{decimal, spacedNumbers}
 use Rattle.text.proofs.Decimal.{decimal-length}
 use Rattle.sheet.specs.Limits.{mostItems, greatestMark, markDigits}
@@ -20,30 +20,42 @@ use Rattle.strict_text.proofs.WithinLimits.{agents-bounds, items-bounds
 mark-length : (n : ℕ) → n ≤ greatestMark → length (decimal n) ≤ markDigits
 mark-length n h = decimal-length n markDigits (omega arith) (omega arith)
 
-numbers-length : (ns : List ℕ) → allowedRow greatestMark ns ≡ true → length (spacedNumbers ns) ≤ length ns * suc markDigits
+numbers-length : (ns : List ℕ) → Each (λ n. n ≤ greatestMark) ns → length (spacedNumbers ns) ≤ length ns * suc markDigits
 unfolding spacedNumbers
 numbers-length [] f = omega arith
-numbers-length (n ∷ ns) f =
-    let both = and-eq-true-iff (allowed greatestMark n) (allowedRow greatestMark ns) .0 f in
-    simp length-append (omega (arith, mark-length n (leb-true n greatestMark (both .0)), numbers-length ns (both .1)))
+numbers-length (n ∷ ns) f = simp length-append (omega (arith, mark-length n (f .0), numbers-length ns (f .1)))
 
 head-length : (agents items : ℕ) → agents < 10 → items < 100 → length (headText agents items) ≤ longestHead
 unfolding headText
 head-length agents items few few-items =
     simp length-append (omega (arith, decimal-length agents 1 (omega arith) few, decimal-length items 2 (omega arith) few-items))
 
-yard-length : (yard : ℕ) (row : List ℕ) → yard < 10 → length row ≤ mostItems → allowedRow greatestMark row ≡ true → length (yardText yard row) ≤ longestYard
-unfolding yardText
-yard-length yard row y p f = simp length-append (omega (arith, decimal-length yard 1 (omega arith) y, numbers-length row f))
+-- a row of no more marks than a sheet has pieces, none of them above the greatest
+abbrev pub SmallRow : List ℕ → Type 0
+SmallRow row = (length row ≤ mostItems) × Each (λ n. n ≤ greatestMark) row
 
-yards-length : (yard items : ℕ) (rows : List (List ℕ)) → yard + length rows ≤ 10 → items ≤ mostItems → AllOfLength items rows → all (allowedRow greatestMark) rows ≡ true
-    → length (yardTexts yard rows) ≤ length rows * longestYard
+yard-length : (yard : ℕ) (row : List ℕ) → yard < 10 → SmallRow row → length (yardText yard row) ≤ longestYard
+unfolding yardText
+yard-length yard row y f = simp length-append (omega (arith, decimal-length yard 1 (omega arith) y, numbers-length row (f .1)))
+
+pub yards-length : (yard : ℕ) (rows : List (List ℕ)) → yard + length rows ≤ 10 → Each SmallRow rows → length (yardTexts yard rows) ≤ length rows * longestYard
 unfolding yardTexts
-yards-length yard items [] y p l f = omega arith
-yards-length yard items (row ∷ rows) y p l f =
+yards-length yard [] y f = omega arith
+yards-length yard (row ∷ rows) y f =
+    simp length-append (omega (arith, yard-length yard row (omega arith) (f .0), yards-length (yard + 1) rows (omega arith) (f .1)))
+
+-- allowed marks are no greater, and rows of them are small
+small-marks : (row : List ℕ) → allowedRow greatestMark row ≡ true → Each (λ n. n ≤ greatestMark) row
+small-marks [] f = tt
+small-marks (n ∷ row) f =
+    let both = and-eq-true-iff (allowed greatestMark n) (allowedRow greatestMark row) .0 f in
+    (leb-true n greatestMark (both .0), small-marks row (both .1))
+
+small-rows : (items : ℕ) (rows : List (List ℕ)) → items ≤ mostItems → AllOfLength items rows → all (allowedRow greatestMark) rows ≡ true → Each SmallRow rows
+small-rows items [] p l f = tt
+small-rows items (row ∷ rows) p l f =
     let both = and-eq-true-iff (allowedRow greatestMark row) (all (allowedRow greatestMark) rows) .0 f in
-    let this = yard-length yard row (omega arith) (omega (arith, l .0)) (both .0) in
-    simp length-append (omega (arith, yards-length (yard + 1) items rows (omega arith) p (l .1) (both .1)))
+    ((omega (arith, l .0), small-marks row (both .0)), small-rows items rows p (l .1) (both .1))
 
 -- no strict text of a table within the limits is longer
 pub length-strictText : {c : Contents} → WithinLimits c → length (strictText c) ≤ longestStrict
@@ -51,6 +63,7 @@ unfolding strictText sheetText bodyText
 length-strictText {c} w =
     let few = agents-bounds w .1 in
     let few-items = items-bounds w .1 in
-    let rows = rows-in-use w in
-    simp length-append
-    (omega (arith, head-length (c .agents) (c .items) (omega arith) (omega arith), yards-length 1 (c .items) (inUse (c .agents) (c .items) (c .table)) (omega arith) few-items (marks-in-use w) (w .marks-allowed)))
+    let rows = inUse (c .agents) (c .items) (c .table) in
+    let small = small-rows (c .items) rows few-items (marks-in-use w) (w .marks-allowed) in
+    let lines = yards-length 1 rows (omega (arith, rows-in-use w)) small in
+    simp length-append (omega (arith, head-length (c .agents) (c .items) (omega arith) (omega arith), lines, rows-in-use w))

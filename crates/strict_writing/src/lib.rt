@@ -5,17 +5,29 @@ ghost use Rattle.sheet.specs.Answers.{after};
 ghost use Rattle.writing.specs.Answered.{answered};
 ghost use Rattle.writing.specs.Filled.{filling, filled};
 ghost use Rattle.strict_text.specs.StrictText.{strictText};
-use crate::lengths::sheet_length;
 use crate::lines::put_sheet;
 use sheet::Sheet;
 use sheet::Table;
 use writing::Answer;
 
-pub mod lengths;
 pub mod lines;
 
+// The lines of all agents and the last line, of every table.
+const LONGEST_LINES: usize = Sheet::AGENTS * (17 + Sheet::ITEMS * (1 + Sheet::MARK_DIGITS)) + 6;
+
 // A buffer of so many bytes is long enough for every table within the limits: the head, a line for each agent, and the last line.
-pub const LONGEST: usize = 30 + Sheet::AGENTS * (17 + Sheet::ITEMS * (1 + Sheet::MARK_DIGITS)) + 6;
+pub const LONGEST: usize = 30 + LONGEST_LINES;
+
+// One of so many is long enough whatever the counts, which have up to 20 digits each.
+const LONGEST_OF_ANY: usize = 27 + 2 * 20 + LONGEST_LINES;
+
+// How long the strict text of a table with these counts is: it is written once where every text has room.
+fn sheet_length(table: Table, agents: usize, items: usize) -> usize
+    ensures { λ r. ⌜ r ≡ length (strictText (record { agents = agents; items = items; table = table })) ⌝ }
+{
+    let mut place = [0u8; LONGEST_OF_ANY];
+    put_sheet(&mut place, 0, table, agents, items)
+}
 
 // Writes the strict text of a table with these counts from the front of the buffer; refused with 10 where the buffer is shorter than the
 // text, and then the buffer keeps all its bytes.

@@ -1,6 +1,6 @@
 -- A text behind a text is one text; one byte where there is room and where there is none; a text with room is a run of stores;
--- the buffer stays as long as it was. Assumes nothing.
-use mathlib.Core.Path.{_≡_, refl, sym, ap, _∙_}
+-- the buffer stays as long as it was, and the text ends within it. Assumes nothing.
+use mathlib.Core.Path.{_≡_, refl, sym, ap, subst, _∙_}
 use mathlib.Core.Bool.{Bool, true, false}
 use mathlib.Core.List.{List, [], _∷_, _++_, foldl, foldl-append}
 use Prim.Native.Nat.{ℕ, suc, _+_, _≤_, _<_}
@@ -10,7 +10,7 @@ use native.Mathlib.Omega.{arith}
 use lib.Dec.{ltb}
 use lib.ListN.{length, set, length-set}
 use lib.Seq.{sets}
-use borrow.Author.Tests.{lt-ltb, le-ltb}
+use borrow.Author.Tests.{lt-ltb, le-ltb, ltb-true}
 use Rattle.writing.specs.Output.{Output, output, withByte, Written}
 
 infixl 30 _then_
@@ -48,3 +48,19 @@ length-withByte p byte = step (ltb (p .next) (length (p .bytes))) refl
 pub length-foldl-withByte : (p : Output) (text : List ℕ) → length (foldl withByte p text .bytes) ≡ length (p .bytes)
 length-foldl-withByte p [] = refl
 length-foldl-withByte p (byte ∷ text) = length-foldl-withByte (withByte p byte) text ∙ length-withByte p byte
+
+-- a text that is written from the front of a buffer ends within it
+next-withByte : (p : Output) (byte : ℕ) → p .next ≤ length (p .bytes) → withByte p byte .next ≤ length (withByte p byte .bytes)
+next-withByte p byte inside = step (ltb (p .next) (length (p .bytes))) refl
+  where
+    step : (b : Bool) → ltb (p .next) (length (p .bytes)) ≡ b → withByte p byte .next ≤ length (withByte p byte .bytes)
+    step true e = rw e (omega (arith, ltb-true (p .next) (length (p .bytes)) e, length-set (p .bytes) (p .next) byte))
+    step false e = rw e inside
+
+next-foldl-withByte : (p : Output) (text : List ℕ) → p .next ≤ length (p .bytes) → foldl withByte p text .next ≤ length (foldl withByte p text .bytes)
+next-foldl-withByte p [] inside = inside
+next-foldl-withByte p (byte ∷ text) inside = next-foldl-withByte (withByte p byte) text (next-withByte p byte inside)
+
+pub written-within : {old text new : List ℕ} {next : ℕ} → Written (output old 0) text (output new next) → next ≤ length new
+written-within {old} {text} {new} {next} w =
+    subst (λ p. p .next ≤ length (p .bytes)) (sym (w .bytewise)) (next-foldl-withByte (output old 0) text (omega arith))

@@ -73,16 +73,6 @@ pub fn put_signed(buffer: &mut [u8], at: usize, n: i64) -> usize
     put_number(buffer, at, without_sign(n))
 }
 
-// How many digits a number has.
-pub fn number_length(n: u64) -> usize
-    ensures { λ r. ⌜ r ≡ length (decimal n) ⌝ }
-{
-    if n < 10 {
-        return 1;
-    }
-    number_length(n / 10) + 1
-}
-
 // A number behind a space.
 pub fn put_spaced_number(buffer: &mut [u8], at: usize, n: u64) -> usize
     ensures { λ r. ⌜ Written (output (now (buffer .entry)) at) (spacedNumber n) (output (now (buffer .exit)) r) ⌝ }

@@ -1,0 +1,2 @@
+-- How long a text is at most, whatever the counts.
+mod Longest

@@ -1,2 +1,0 @@
--- `internal` has what the contracts of private functions cite.
-pub mod internal
