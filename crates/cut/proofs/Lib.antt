@@ -1,6 +1,5 @@
--- `Laws` and `Allowance` are what the crates above cite; the rest serves the proofs of this crate's functions: `One` has the cut into one
+-- `Allowance` is what the crates above cite; the rest serves the proofs of this crate's functions: `One` has the cut into one
 -- bundle, and the laws of sorting, sharing and searching stand beside the functions.
-pub mod Laws
 pub mod Allowance
 pub mod Samples
 mod One

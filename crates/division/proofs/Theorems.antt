@@ -15,8 +15,8 @@ use Rattle.sheet.specs.Answers.{refused, accepted}
 use Rattle.sheet.specs.Tables.{AgreeInUse}
 use Rattle.sheet.specs.Allocations.{Allocates}
 use Rattle.growth.specs.Growth.{growths}
-use Rattle.grading.specs.Scale.{passes, gradeByTable}
-use Rattle.grading.proofs.Scale.{passes-from-grade}
+use Rattle.grades.specs.Scale.{passes, gradeByTable}
+use Rattle.grades.proofs.Scale.{passes-from-grade}
 use Rattle.margins.specs.Terms.{termsFor}
 use Rattle.rounds.specs.Division.{standardInstance, allocation, divisionOf, divisionByRounds, answer}
 use Rattle.division.specs.Outcome.{outcome}

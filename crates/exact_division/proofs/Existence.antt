@@ -6,7 +6,7 @@ use mathlib.Core.List.{List, List·Memᴰ as Mem}
 use Prim.Native.Nat.{ℕ}
 use Rattle.lists.proofs.ranges.RangeSublists.{rising-range-sublist}
 use Rattle.lists.proofs.members.Counting.{mem-any, any-mem}
-use Rattle.cut.specs.Partitions.{partitions}
+use Rattle.maximin.specs.Partitions.{partitions}
 use Rattle.exact_division.specs.Exact.{isExact, bundlesBy, exactExists, ExactDivision}
 use Rattle.exact_division.proofs.Giving.{bundlesBy-rising, bundlesBy-allocates}
 use Rattle.exact_division.proofs.Holders.{holders-listed, bundlesBy-holders}

@@ -7,7 +7,7 @@ use Rattle.lists.proofs.ranges.Ranges.{mem-within}
 use Rattle.lists.proofs.ranges.RangeSublists.{range-sublist-rising}
 use Rattle.lists.proofs.dictionary.Listed.{listsOver-in}
 use Rattle.sheet.specs.Allocations.{Allocates}
-use Rattle.cut.specs.Partitions.{partitions}
+use Rattle.maximin.specs.Partitions.{partitions}
 use Rattle.rounds.proofs.round.Allocating.{allBundles-sublist, allBundles-allocate}
 use Rattle.exact_division.specs.Exact.{bundlesBy}
 

@@ -13,10 +13,10 @@ use Rattle.sheet.specs.Valuations.{itemValue, value}
 use Rattle.sheet.specs.Tables.{valuation, profile, AgreeInUse}
 use Rattle.sheet.specs.Allocations.{Allocates}
 use Rattle.sheet.proofs.valuing.Tables.{itemValue-profile, profile-agree}
-use Rattle.cut.specs.Share.{maximinShare}
+use Rattle.maximin.specs.Share.{maximinShare}
 use Rattle.shares.proofs.Profile.{nth-shares}
-use Rattle.grading.specs.Grade.{maximinFair}
-use Rattle.grading.specs.Scale.{passes}
+use Rattle.grades.specs.Grade.{maximinFair}
+use Rattle.grades.specs.Scale.{passes}
 use Rattle.exact_division.specs.Exact.{isExact}
 
 module _ (n m : ℕ) (table bundles : List (List ℕ)) (allocates : Allocates n m bundles) where

@@ -16,7 +16,7 @@ use Rattle.lists.proofs.members.Only.{only, only-mem, eqb-only}
 use Rattle.lists.proofs.dictionary.Listed.{in-listsOver}
 use Rattle.lists.proofs.sums.Totals.{map-cong}
 use Rattle.sheet.specs.Allocations.{Allocates}
-use Rattle.cut.specs.Partitions.{partitions}
+use Rattle.maximin.specs.Partitions.{partitions}
 use Rattle.bundling.specs.Bundles.{bundle}
 use Rattle.bundling.proofs.Bundles.{itemsIn-map}
 use Rattle.exact_division.specs.Exact.{bundlesBy}

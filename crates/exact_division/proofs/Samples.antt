@@ -6,7 +6,7 @@ use mathlib.Core.List.{List, [], _∷_, map}
 use Prim.Native.Nat.{ℕ}
 use Rattle.sheet.specs.Tables.{profile}
 use Rattle.sheet.specs.Answers.{refused, accepted}
-use Rattle.cut.specs.Share.{maximinShare}
+use Rattle.maximin.specs.Share.{maximinShare}
 use Rattle.shares.specs.Shares.{sharesCovered, sharing}
 use Rattle.rounds.proofs.Samples.{starred, samples}
 use Rattle.exact_division.specs.Exact.{isExact, exactExists}

@@ -13,7 +13,7 @@ use Rattle.sheet.specs.Limits.{CountsWithin}
 use Rattle.sheet.specs.Answers.{accepted}
 use Rattle.sheet.specs.Tables.{AgreeInUse}
 use Rattle.sheet.proofs.valuing.Tables.{profile-agree}
-use Rattle.cut.specs.Partitions.{partitions}
+use Rattle.maximin.specs.Partitions.{partitions}
 use Rattle.shares.specs.Shares.{sharing}
 use Rattle.margins.specs.Terms.{termsFor}
 use Rattle.rounds.specs.Division.{Division, divisionOf, answer}

@@ -8,7 +8,7 @@ use Rattle.lists.specs.Lists.{range, nth, any, all, Rising}
 use Rattle.sheet.specs.Valuations.{value}
 use Rattle.sheet.specs.Tables.{valuation}
 use Rattle.sheet.specs.Allocations.{Allocates}
-use Rattle.cut.specs.Partitions.{partitions}
+use Rattle.maximin.specs.Partitions.{partitions}
 use Rattle.bundling.specs.Bundles.{bundle}
 use Rattle.shares.specs.Shares.{shareOf}
 

@@ -18,7 +18,7 @@ use Rattle.sheet.specs.Valuations.{itemValue}
 use Rattle.sheet.specs.Tables.{valuation, allValues, profile}
 use Rattle.sheet.specs.Allocations.{Allocates}
 use Rattle.sheet.proofs.valuing.Tables.{valuation-profile}
-use Rattle.cut.proofs.Laws.{shares-le-total}
+use Rattle.maximin.proofs.Laws.{shares-le-total}
 use Rattle.shares.proofs.Profile.{nth-shares}
 use Rattle.margins.specs.Terms.{termsFor}
 use Rattle.margins.specs.Margins.{marginsOf, noneNegative}

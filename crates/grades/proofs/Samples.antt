@@ -3,7 +3,7 @@ use mathlib.Core.Path.{_≡_, refl}
 use mathlib.Core.List.{List, [], _∷_, map}
 use Prim.Native.Nat.{ℕ}
 use Rattle.sheet.specs.Tables.{profile}
-use Rattle.cut.specs.Share.{maximinShare}
+use Rattle.maximin.specs.Share.{maximinShare}
 use Rattle.margins.specs.Terms.{largestOdd, termsFor}
 use Rattle.margins.specs.Margins.{margin}
 use Rattle.grades.specs.Grade.{envyFree, proportional, maximinFair, grade}

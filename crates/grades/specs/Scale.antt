@@ -5,7 +5,7 @@ use Prim.Native.Nat.{ℕ}
 use lib.IntN.{ℤ}
 use Rattle.lists.specs.Lists.{nth}
 use Rattle.sheet.specs.Tables.{profile}
-use Rattle.cut.specs.Share.{maximinShare}
+use Rattle.maximin.specs.Share.{maximinShare}
 use Rattle.margins.specs.Terms.{termsFor}
 use Rattle.margins.specs.Margins.{marginsOf, noneNegative}
 use Rattle.grades.specs.Grade.{ownValues, envyFree, proportional, maximinFair, grade}

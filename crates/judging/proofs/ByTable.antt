@@ -20,11 +20,11 @@ use Rattle.shares.proofs.Profile.{nth-shares}
 use Rattle.shares.proofs.EachAgent.{shares-range}
 use Rattle.margins.specs.Terms.{termsFor}
 use Rattle.margins.specs.Margins.{margin, marginWithin, marginsStored}
-use Rattle.grading.specs.Grade.{ownValues, valueTo, worthsIn, gradeIn}
-use Rattle.grading.specs.Scale.{sharesOf, marginsByTable, gradeByTable}
-use Rattle.grading.proofs.InPlaces.{nth-worthsIn}
+use Rattle.grades.specs.Grade.{ownValues, valueTo, worthsIn, gradeIn}
+use Rattle.grades.specs.Scale.{sharesOf, marginsByTable, gradeByTable}
+use Rattle.grades.proofs.InPlaces.{nth-worthsIn}
 use Rattle.margins.proofs.Stored.{nth-marginsStored}
-use Rattle.grading.proofs.Grades.{grade-cong, gradeIn-within}
+use Rattle.grades.proofs.Grades.{grade-cong, gradeIn-within}
 use Rattle.judging.specs.internal.Shared.{SharesIn}
 
 module _ (n m : ℕ) (table : List (List ℕ)) (shares : List ℕ) (shared : SharesIn n m table shares) where

@@ -15,7 +15,7 @@ use Rattle.lists.proofs.members.Tests.{all-cong, all-nth}
 use Rattle.sheet.specs.Limits.{mostAgents}
 use Rattle.sheet.specs.Sets.{itemsOf}
 use Rattle.shares.specs.Shares.{shareOf}
-use Rattle.grading.specs.Scale.{gradeByTable}
+use Rattle.grades.specs.Scale.{gradeByTable}
 use Rattle.division_reading.specs.Stated.{Stated}
 use Rattle.division_reading.specs.declared.StatedLine as line
 use Rattle.stated_truth.specs.Truth.{bundlesOf, lineOf, noneStated, eachInOne, eachInOneOfAll, lineTrue, figuresTrue}

@@ -1,6 +1,3 @@
--- What judging a division of a table answers in code. `Truth`, `Shape` and `Judging` pass on what `stated_truth` defines.
-pub mod Truth
-pub mod Shape
-pub mod Judging
+-- What judging a division of a table answers in code; what that means stands in `stated_truth`.
 pub mod Outcome
 pub mod internal

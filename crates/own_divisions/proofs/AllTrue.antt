@@ -12,21 +12,21 @@ use Rattle.sheet.specs.Answers.{accepted}
 use Rattle.sheet.specs.Valuations.{itemValue}
 use Rattle.sheet.specs.Tables.{valuation, allValues}
 use Rattle.sheet.specs.Allocations.{Allocates}
-use Rattle.cut.specs.Share.{maximinPartition}
-use Rattle.cut.proofs.Laws.{maximinPartition-within, leastBundle-maximinPartition}
+use Rattle.maximin.specs.Share.{maximinPartition}
+use Rattle.maximin.proofs.Laws.{maximinPartition-within, leastBundle-maximinPartition}
 use Rattle.shares.specs.Shares.{shareOf}
 use Rattle.shares.proofs.Profile.{nth-shares}
-use Rattle.grading.specs.Scale.{marginsByTable, gradeByTable}
+use Rattle.grades.specs.Scale.{marginsByTable, gradeByTable}
 use Rattle.rounds.specs.Division.{Division, divisionOf, divisionByRounds, answer}
 use Rattle.rounds.proofs.round.Allocating.{allBundles, allBundles-sublist, allBundles-allocate}
 use Rattle.rounds.proofs.Answers.{answer-accepted}
 use Rattle.rounds.proofs.Graded.{division-allocates}
 use Rattle.printing.proofs.printed.Printable.{nth-cuts, divisionByRounds-printable}
 use Rattle.division_reading.specs.Stated.{Stated}
-use Rattle.judging.specs.Truth.{bundlesOf, noneStated, lineOf, worthTo, leastOfCut, AllTrue}
-use Rattle.judging.specs.Shape.{WellFormed}
+use Rattle.stated_truth.specs.Truth.{bundlesOf, noneStated, lineOf, worthTo, leastOfCut, AllTrue}
+use Rattle.stated_truth.specs.Shape.{WellFormed}
 use Rattle.own_divisions.specs.StatedBy.{statedLineBy, statedBy}
-use Rattle.judging.proofs.Shape.{sublist-bundle}
+use Rattle.stated_truth.proofs.Shape.{sublist-bundle}
 use Rattle.own_divisions.proofs.CutBundles.{value-allValues, leastOf-allBundles}
 
 module _ (n m : ℕ) (table : List (List ℕ)) where

@@ -13,7 +13,7 @@ use Rattle.lists.proofs.sums.LeastOf.{leastOf-cong}
 use Rattle.lists.proofs.sums.Totals.{sumOver-cong}
 use Rattle.sheet.specs.Valuations.{itemValue, value}
 use Rattle.sheet.specs.Tables.{allValues}
-use Rattle.cut.specs.Share.{bundleValue, leastBundle}
+use Rattle.maximin.specs.Share.{bundleValue, leastBundle}
 use Rattle.bundling.specs.Bundles.{bundle}
 use Rattle.bundling.proofs.Bundles.{itemsIn-sublist}
 use Rattle.rounds.proofs.round.Bundles.{bundleValue-items}

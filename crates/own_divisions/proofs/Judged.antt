@@ -12,8 +12,8 @@ use Rattle.rounds.specs.Division.{Division, answer}
 use Rattle.rounds.proofs.Answers.{answer-accepted}
 use Rattle.printing.specs.Printed.{printedWithoutCutters}
 use Rattle.division_reading.specs.Grammar.{divisionText}
-use Rattle.judging.specs.Judging.{judging}
-use Rattle.judging.proofs.Theorems.{accepted-exactly-if-all-true}
+use Rattle.stated_truth.specs.Judging.{judging}
+use Rattle.stated_truth.proofs.Theorems.{accepted-exactly-if-all-true}
 use Rattle.own_divisions.specs.StatedBy.{statedBy}
 use Rattle.own_divisions.proofs.BehindSheet.{sheet-division-read}
 use Rattle.own_divisions.proofs.AllTrue.{own-division-true, own-division-shape, own-division-margins}

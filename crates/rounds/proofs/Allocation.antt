@@ -21,7 +21,7 @@ use Rattle.shares.specs.Shares.{shareOf}
 use Rattle.shares.proofs.Profile.{nth-shares, shareOf-profile}
 use Rattle.margins.specs.declared.Terms.{Terms}
 use Rattle.margins.specs.Margins.{noneNegative}
-use Rattle.grading.proofs.NoneNegative.{noneNegative-own}
+use Rattle.grades.proofs.NoneNegative.{noneNegative-own}
 use Rattle.rounds.specs.Round.{Instance, suits, Round, round, held}
 use Rattle.rounds.specs.Division.{instanceOf, allRounds, allocation, allocationMargins}
 use Rattle.rounds.proofs.density.Terms.{Allowed}

@@ -12,8 +12,8 @@ use Rattle.lists.proofs.places.Passing.{empty}
 use Rattle.lists.proofs.dictionary.Dictionary.{range-rising, pairwise-sublist}
 use Rattle.sheet.specs.Valuations.{itemValue}
 use Rattle.sheet.specs.Tables.{valuation}
-use Rattle.cut.specs.Share.{leastBundle, maximinShare}
-use Rattle.cut.proofs.Laws.{leastBundle-le-maximinShare, leastBundle-maximinPartition, maximinPartition-precedes}
+use Rattle.maximin.specs.Share.{leastBundle, maximinShare}
+use Rattle.maximin.proofs.Laws.{leastBundle-le-maximinShare, leastBundle-maximinPartition, maximinPartition-precedes}
 use Rattle.matching.specs.Matching.{cutterOf, chosenOf}
 use Rattle.matching.proofs.Cutter.{cutterOf-mem, cutterOf-lowest}
 use Rattle.matching.proofs.Serving.{waitingOf-largest, cutterOf-served}

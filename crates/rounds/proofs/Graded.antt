@@ -11,8 +11,8 @@ use Rattle.sheet.specs.Answers.{accepted}
 use Rattle.sheet.specs.Allocations.{Allocates}
 use Rattle.margins.specs.Terms.{termsFor}
 use Rattle.margins.specs.Margins.{noneNegative}
-use Rattle.grading.specs.Scale.{passes}
-use Rattle.grading.proofs.Scale.{passes-from-grade}
+use Rattle.grades.specs.Scale.{passes}
+use Rattle.grades.proofs.Scale.{passes-from-grade}
 use Rattle.rounds.specs.Division.{Division, divisionOf, answer}
 use Rattle.rounds.proofs.density.Terms.{termsFor-allowed}
 use Rattle.rounds.proofs.Allocation.{allocation-noneNegative, allocation-allocates}

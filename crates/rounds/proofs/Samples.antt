@@ -9,7 +9,7 @@ use lib.IntN.{pos}
 use Rattle.sheet.specs.Limits.{CountsWithin}
 use Rattle.sheet.specs.Sets.{itemsOf}
 use Rattle.sheet.specs.Valuations.{valuesOf}
-use Rattle.cut.specs.Share.{maximinShare, maximinPartition}
+use Rattle.maximin.specs.Share.{maximinShare, maximinPartition}
 use Rattle.cut.specs.Outcome.{Found, shared, found, cutting}
 use Rattle.cut.proofs.Samples.{Sample as CutSample}
 use Rattle.margins.specs.Terms.{largestOdd, termsFor}
@@ -17,7 +17,7 @@ use Rattle.margins.specs.Margins.{margin}
 use Rattle.sheet.specs.Tables.{profile}
 use Rattle.matching.specs.Matching.{waitingSet, matching}
 use Rattle.rounds.specs.Round.{round, rounds, held}
-use Rattle.grading.specs.Grade.{envyFree, proportional, maximinFair, grade}
+use Rattle.grades.specs.Grade.{envyFree, proportional, maximinFair, grade}
 use Rattle.rounds.specs.Division.{Division, divisionOf, divisionByRounds, answer}
 use Rattle.rounds.proofs.Answers.{answer-within-limits, answer-refused-14}
 use Rattle.sheet.specs.Answers.{Answer, refused, accepted}

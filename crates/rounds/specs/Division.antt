@@ -5,12 +5,12 @@ use lib.IntN.{ℤ}
 use Rattle.lists.specs.Lists.{range}
 use Rattle.sheet.specs.Answers.{Answer, accepted, andThen}
 use Rattle.sheet.specs.Tables.{profile}
-use Rattle.cut.specs.Share.{maximinShare, maximinPartition}
+use Rattle.maximin.specs.Share.{maximinShare, maximinPartition}
 use Rattle.margins.specs.declared.Terms.{Terms}
 use Rattle.margins.specs.Terms.{termsFor}
 use Rattle.margins.specs.Margins.{marginsOf}
 use Rattle.rounds.specs.Round.{Instance, Round, rounds, held}
-use Rattle.grading.specs.Grade.{ownValues, grade}
+use Rattle.grades.specs.Grade.{ownValues, grade}
 use Rattle.shares.specs.Shares.{sharingWithin}
 
 -- a division, agent after agent: the bundles (piles), the shares, the cuts of all items, the margins; the cutter of each round; the grade

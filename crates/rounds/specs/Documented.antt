@@ -9,7 +9,7 @@ use Rattle.lists.specs.Lists.{Within, Rising, elem}
 use Rattle.lists.specs.Dictionary.{Precedes}
 use Rattle.sheet.specs.Valuations.{itemValue}
 use Rattle.sheet.specs.Tables.{valuation}
-use Rattle.cut.specs.Share.{leastBundle}
+use Rattle.maximin.specs.Share.{leastBundle}
 use Rattle.matching.specs.Matching.{without, servedAgents, neighbours, freeBundles, Matched, bundleNumbers}
 use Rattle.bundling.specs.Bundles.{itemsIn, bundle}
 use Rattle.rounds.specs.Round.{Instance, suitsIn, Round}

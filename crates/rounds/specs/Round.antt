@@ -8,7 +8,7 @@ use lib.ListN.{length}
 use Rattle.lists.specs.Lists.{nth, elem}
 use Rattle.sheet.specs.Valuations.{itemValue, value}
 use Rattle.bundling.specs.Bundles.{itemsIn, bundle}
-use Rattle.cut.specs.Share.{maximinPartition}
+use Rattle.maximin.specs.Share.{maximinPartition}
 use Rattle.margins.specs.declared.Terms.{Terms}
 use Rattle.sheet.specs.Tables.{valuation}
 use Rattle.matching.specs.Matching.{cutterOf, waitingOf, servedOf, chosenOf}

@@ -18,7 +18,7 @@ use Rattle.sheet.specs.Tables.{valuation, allValues, profile}
 use Rattle.sheet.proofs.sets.Ranges.{setOf-upTo}
 use Rattle.sheet.proofs.sets.Remainders.{values-all}
 use Rattle.growth.specs.Growth.{growths}
-use Rattle.cut.specs.Share.{maximinShare, maximinPartition}
+use Rattle.maximin.specs.Share.{maximinShare, maximinPartition}
 use Rattle.cut.specs.Outcome.{cutting, cuttingOf, wholeCut}
 use Rattle.cut.proofs.Allowance.{cutting-shared}
 use Rattle.shares.specs.Shares.{shareOf, sharesCovered}

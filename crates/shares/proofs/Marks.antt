@@ -16,8 +16,8 @@ use Rattle.sheet.specs.Limits.{mostItems, valueBound, greatestSum}
 use Rattle.sheet.proofs.Limits.{markWidth}
 use Rattle.sheet.specs.Valuations.{itemValue}
 use Rattle.sheet.specs.Tables.{allValues}
-use Rattle.cut.specs.Share.{maximinShare}
-use Rattle.cut.proofs.Laws.{shares-le-total}
+use Rattle.maximin.specs.Share.{maximinShare}
+use Rattle.maximin.proofs.Laws.{shares-le-total}
 
 -- each mark of a row that a function is handed is below the bound of its type
 pub marks-small : (n : ℕ) (row : List ℕ) (vs : List Val) → Is (Array (UInt markWidth) n) row vs → (i : ℕ) → getD row i 0 < valueBound

@@ -10,7 +10,7 @@ use Rattle.sheet.specs.Limits.{mostAgents, CountsWithin}
 use Rattle.sheet.specs.Answers.{Answer, refused, accepted}
 use Rattle.sheet.specs.Tables.{profile}
 use Rattle.growth.specs.Growth.{growths}
-use Rattle.cut.specs.Share.{maximinShare, maximinPartition}
+use Rattle.maximin.specs.Share.{maximinShare, maximinPartition}
 use Rattle.cut.specs.Outcome.{Cutting}
 use Rattle.shares.specs.Shares.{shareOf, sharing, sharingWithin}
 use Rattle.shares.specs.Outcome.{cutOf, blankCut, outcome}

@@ -7,7 +7,7 @@ use Rattle.lists.specs.Lists.{range, nth}
 use Rattle.lists.proofs.ranges.Ranges.{nth-map-range}
 use Rattle.sheet.specs.Tables.{valuation, allValues, profile}
 use Rattle.sheet.proofs.valuing.Tables.{values-profile}
-use Rattle.cut.specs.Share.{maximinShare}
+use Rattle.maximin.specs.Share.{maximinShare}
 use Rattle.shares.specs.Shares.{shareOf}
 
 module _ (n m : ℕ) (table : List (List ℕ)) {agent : ℕ} (in-use : Mem agent (range 1 n)) where

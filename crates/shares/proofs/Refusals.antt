@@ -14,9 +14,9 @@ use Rattle.sheet.specs.Answers.{refused, accepted, require}
 use Rattle.sheet.specs.Tables.{profile}
 use Rattle.sheet.proofs.Limits.{within-bounds, within-both}
 use Rattle.sheet.proofs.Refusals.{NeverRefused, never-accepted, never-require}
-use Rattle.cut.specs.Share.{maximinShare}
+use Rattle.maximin.specs.Share.{maximinShare}
 use Rattle.cut.specs.Outcome.{cuttingOf}
-use Rattle.cut.proofs.Laws.{shares-le-total}
+use Rattle.maximin.proofs.Laws.{shares-le-total}
 use Rattle.shares.specs.Shares.{sharesCovered, sharing}
 
 -- refusal 9 "cannot fire": n bundles sum to the total and each is at least the least

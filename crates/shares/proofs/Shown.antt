@@ -15,8 +15,8 @@ use Rattle.lists.proofs.members.Counting.{all-mem}
 use Rattle.sheet.specs.Limits.{within}
 use Rattle.sheet.specs.Tables.{valuation, allValues}
 use Rattle.sheet.proofs.Limits.{each-within}
-use Rattle.cut.specs.Share.{leastBundle}
-use Rattle.cut.proofs.Laws.{maximinShare-of-total}
+use Rattle.maximin.specs.Share.{leastBundle}
+use Rattle.maximin.proofs.Laws.{maximinShare-of-total}
 use Rattle.shares.specs.Shares.{shareOf}
 
 module _ (n m : ℕ) (table : List (List ℕ)) (share : ℕ) (partitions : List (List ℕ)) where

@@ -9,7 +9,7 @@ use Rattle.sheet.specs.Limits.{mostAgents, mostItems, within}
 use Rattle.sheet.specs.Answers.{Answer, accepted, require, andThen}
 use Rattle.sheet.specs.Tables.{valuation, allValues, profile}
 use Rattle.growth.specs.Growth.{growths}
-use Rattle.cut.specs.Share.{maximinShare}
+use Rattle.maximin.specs.Share.{maximinShare}
 use Rattle.cut.specs.Outcome.{Cutting, cuttingOf}
 
 -- "the share is over all pieces and as many piles as there are yards": of agent i among n, over the items 1 .. m

@@ -11,11 +11,11 @@ use Rattle.lexing.specs.Forms as forms
 use Rattle.lexing.specs.Numbers as numbers
 use Rattle.sheet_lines.specs.Grammar as grammar
 use Rattle.reading.specs.Reading.{contentsOf, reading}
-use Rattle.cut.specs.Share.{maximinShare, maximinPartition}
+use Rattle.maximin.specs.Share.{maximinShare, maximinPartition}
 use Rattle.matching.specs.Matching.{waitingSet, matching}
 use Rattle.margins.specs.Terms.{largestOdd, termsFor}
 use Rattle.rounds.specs.Round.{round, rounds, held}
-use Rattle.grading.specs.Grade.{envyFree, proportional, maximinFair, grade}
+use Rattle.grades.specs.Grade.{envyFree, proportional, maximinFair, grade}
 use Rattle.growth.specs.Growth.{growths}
 use Rattle.shares.specs.Shares.{sharesCovered, sharing, sharingWithin}
 use Rattle.rounds.specs.Division.{divisionOf, answer}

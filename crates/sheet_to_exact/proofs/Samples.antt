@@ -11,7 +11,7 @@ use Rattle.lexing.specs.Forms as forms
 use Rattle.lexing.specs.Numbers as numbers
 use Rattle.sheet_lines.specs.Grammar as grammar
 use Rattle.reading.specs.Reading.{contentsOf, reading}
-use Rattle.cut.specs.Share.{maximinShare}
+use Rattle.maximin.specs.Share.{maximinShare}
 use Rattle.shares.specs.Shares.{sharesCovered, sharing}
 use Rattle.exact_division.specs.Exact.{isExact, exactExists}
 use Rattle.exact_division.specs.Search.{searching}

@@ -15,15 +15,15 @@ use Rattle.writing.specs.Answered.{answered}
 use Rattle.writing.specs.declared.Answer as declared
 use Rattle.margins.specs.Terms.{termsFor}
 use Rattle.margins.specs.Margins.{margin}
-use Rattle.grading.specs.Grade.{ownValues}
-use Rattle.grading.specs.Scale.{sharesOf}
+use Rattle.grades.specs.Grade.{ownValues}
+use Rattle.grades.specs.Scale.{sharesOf}
 use Rattle.division_reading.specs.Stated.{Stated}
-use Rattle.judging.specs.Truth.{bundlesOf}
-use Rattle.judging.specs.Judging.{judging}
+use Rattle.stated_truth.specs.Truth.{bundlesOf}
+use Rattle.stated_truth.specs.Judging.{judging}
 use Rattle.judging.specs.Outcome.{outcome}
 use Rattle.judging.specs.declared.Answer.the-variants.{Refused, Accepted}
 use Rattle.judging.specs.declared.Outcome.{Outcome}
-use Rattle.judging.proofs.Accepted.{AcceptedDivision, accepted-division}
+use Rattle.stated_truth.proofs.Accepted.{AcceptedDivision, accepted-division}
 use Rattle.sheet_to_judgement.specs.AcceptedText.{acceptedText}
 use Rattle.sheet_to_judgement.specs.internal.MarginsText.{marginsText}
 use Rattle.sheet_to_judgement.specs.internal.Printing.{printing}

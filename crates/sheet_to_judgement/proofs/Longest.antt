@@ -21,11 +21,11 @@ use Rattle.margins.specs.Terms.{termsFor}
 use Rattle.margins.specs.Margins.{margin}
 use Rattle.margins.proofs.TermsFor.{top-small, bottom-small}
 use Rattle.margins.proofs.Signs.{difference-small}
-use Rattle.grading.specs.Grade.{ownValues}
-use Rattle.grading.specs.Scale.{sharesOf}
+use Rattle.grades.specs.Grade.{ownValues}
+use Rattle.grades.specs.Scale.{sharesOf}
 use Rattle.division_reading.specs.Stated.{Stated}
 use Rattle.division_reading.proofs.Shape.{LineShape, DivisionShape, division-shape}
-use Rattle.judging.specs.Truth.{bundlesOf, noneStated, lineOf, AllTrue}
+use Rattle.stated_truth.specs.Truth.{bundlesOf, noneStated, lineOf, AllTrue}
 use Rattle.sheet_to_judgement.specs.AcceptedText.{acceptedText, longestAccepted}
 use Rattle.sheet_to_judgement.specs.TextJudged.{textJudged, judgementFrom}
 use Rattle.sheet_to_judgement.proofs.Answers.{marginAt}

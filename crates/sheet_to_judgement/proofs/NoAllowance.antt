@@ -10,7 +10,7 @@ use Rattle.sheet.proofs.Refusals.{NeverRefused, never-accepted, never-require, 
 use Rattle.reading.specs.Reading.{readingFront}
 use Rattle.reading.proofs.Refusals.{readingFront-refusals}
 use Rattle.division_reading.specs.Grammar.{divisionText}
-use Rattle.judging.proofs.Verdicts.{judging-refusals}
+use Rattle.stated_truth.proofs.Verdicts.{judging-refusals}
 use Rattle.sheet_to_judgement.specs.AcceptedText.{acceptedText}
 use Rattle.sheet_to_judgement.specs.TextJudged.{textJudged, judgementFrom}
 

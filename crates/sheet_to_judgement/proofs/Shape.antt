@@ -4,8 +4,8 @@ use Prim.Native.Nat.{ℕ}
 use Rattle.lists.proofs.members.Each.{each-mem}
 use Rattle.division_reading.specs.Stated.{StatedLine, Stated}
 use Rattle.division_reading.proofs.Shape.{OfSheet, LineShape, DivisionShape}
-use Rattle.judging.specs.Shape.{WellFormed}
-use Rattle.judging.proofs.Shape.{sublist-bundle}
+use Rattle.stated_truth.specs.Shape.{WellFormed}
+use Rattle.stated_truth.proofs.Shape.{sublist-bundle}
 
 module _ (n m : ℕ) (d : Stated) (shape : DivisionShape n m d) where
   pub line-shape : (l : StatedLine) → Mem l (d .lines) → LineShape n m l

@@ -9,9 +9,9 @@ use Rattle.sheet.proofs.Accepted.{refused-not-accepted}
 use Rattle.reading.specs.Reading.{readingFront}
 use Rattle.division_reading.specs.Grammar.{divisionText}
 use Rattle.division_reading.proofs.Shape.{division-shape}
-use Rattle.judging.specs.Judging.{judging}
-use Rattle.judging.proofs.Accepted.{accepted-division}
-use Rattle.judging.proofs.Theorems.{accepted-exactly-if-all-true}
+use Rattle.stated_truth.specs.Judging.{judging}
+use Rattle.stated_truth.proofs.Accepted.{accepted-division}
+use Rattle.stated_truth.proofs.Theorems.{accepted-exactly-if-all-true}
 use Rattle.sheet_to_judgement.specs.TextJudged.{sheetJudged, textJudged, TrueText}
 use Rattle.sheet_to_judgement.proofs.Front.{readingFront-counts}
 use Rattle.sheet_to_judgement.proofs.Shape.{well-formed}

@@ -8,11 +8,11 @@ use Rattle.sheet.specs.Answers.{Answer, accepted, andThen}
 use Rattle.lexing.specs.Tokens.{Token}
 use Rattle.reading.specs.Reading.{Contents, readingFront}
 use Rattle.writing.specs.Filled.{filling}
-use Rattle.grading.specs.Scale.{marginsByTable}
+use Rattle.grades.specs.Scale.{marginsByTable}
 use Rattle.division_reading.specs.Stated.{Stated}
 use Rattle.division_reading.specs.Grammar.{divisionText}
-use Rattle.judging.specs.Truth.{bundlesOf, AllTrue}
-use Rattle.judging.specs.Judging.{judging}
+use Rattle.stated_truth.specs.Truth.{bundlesOf, AllTrue}
+use Rattle.stated_truth.specs.Judging.{judging}
 use Rattle.sheet_to_judgement.specs.AcceptedText.{acceptedText}
 
 -- the judgement on the division that stands behind a sheet, as these tokens

@@ -10,11 +10,10 @@ use Rattle.sheet.specs.Answers.{refused, accepted}
 use Rattle.sheet.proofs.Accepted.{refused-not-accepted, required, requiredSome}
 use Rattle.shares.specs.Shares.{sharing}
 use Rattle.shares.proofs.Refusals.{sharing-cases}
-use Rattle.grading.specs.Scale.{marginsByTable}
+use Rattle.grades.specs.Scale.{marginsByTable}
 use Rattle.division_reading.specs.Stated.{Stated}
 use Rattle.stated_truth.specs.Truth.{bundlesOf, eachInOneOfAll, figuresTrue}
-use Rattle.stated_truth.specs.Judging.{judging}
-use Rattle.stated_truth.specs.Judging.{judgingShared}
+use Rattle.stated_truth.specs.Judging.{judging, judgingShared}
 use Rattle.stated_truth.proofs.Verdicts.{judging-refused, judging-within}
 
 pub record AcceptedDivision (n m : ℕ) (table : List (List ℕ)) (stated : Option Stated) (margins : List ℤ) : Type 0 where

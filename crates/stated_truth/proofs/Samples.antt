@@ -6,11 +6,11 @@ use Prim.Native.Nat.{ℕ}
 use lib.IntN.{ℤ, pos}
 use Rattle.sheet.specs.Tables.{profile}
 use Rattle.sheet.specs.Answers.{Answer, refused, accepted}
-use Rattle.cut.specs.Share.{maximinShare, maximinPartition}
+use Rattle.maximin.specs.Share.{maximinShare, maximinPartition}
 use Rattle.shares.specs.Shares.{sharesCovered, sharing}
 use Rattle.margins.specs.Terms.{largestOdd, termsFor}
 use Rattle.margins.specs.Margins.{margin}
-use Rattle.grading.specs.Grade.{envyFree, proportional, maximinFair, grade}
+use Rattle.grades.specs.Grade.{envyFree, proportional, maximinFair, grade}
 use Rattle.division_reading.specs.Stated.{StatedLine, Stated}
 use Rattle.stated_truth.specs.Truth.{eachInOne, eachInOneOfAll, lineTrue, figuresTrue}
 use Rattle.stated_truth.specs.Judging.{judging}

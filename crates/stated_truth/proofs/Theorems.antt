@@ -20,12 +20,11 @@ use Rattle.sheet.specs.Answers.{refused, accepted}
 use Rattle.sheet.proofs.Accepted.{refused-not-accepted, required}
 use Rattle.shares.specs.Shares.{shareOf, sharing}
 use Rattle.shares.proofs.Refusals.{sharing-cases}
-use Rattle.grading.specs.Scale.{marginsByTable, gradeByTable}
+use Rattle.grades.specs.Scale.{marginsByTable, gradeByTable}
 use Rattle.division_reading.specs.Stated.{Stated}
 use Rattle.stated_truth.specs.Truth.{bundlesOf, noneStated, lineOf, eachInOne, eachInOneOfAll, worthTo, leastOfCut, lineTrue, figuresTrue, AllTrue}
 use Rattle.stated_truth.specs.Shape.{IsBundle, WellFormed}
-use Rattle.stated_truth.specs.Judging.{judging}
-use Rattle.stated_truth.specs.Judging.{judgingRead}
+use Rattle.stated_truth.specs.Judging.{judging, judgingRead}
 use Rattle.stated_truth.proofs.Allocating.{allocates-in-one, in-one-allocates}
 use Rattle.stated_truth.proofs.Verdicts.{judging-refused, judging-within, judged-true}
 

@@ -10,11 +10,10 @@ use Rattle.sheet.specs.Answers.{refused, accepted}
 use Rattle.sheet.proofs.Refusals.{NeverRefused, never-accepted, never-require, never-requireSome, never-andThen}
 use Rattle.shares.specs.Shares.{sharing}
 use Rattle.shares.proofs.Refusals.{sharing-within, sharing-refusals}
-use Rattle.grading.specs.Scale.{marginsByTable}
+use Rattle.grades.specs.Scale.{marginsByTable}
 use Rattle.division_reading.specs.Stated.{Stated}
 use Rattle.stated_truth.specs.Truth.{bundlesOf, eachInOneOfAll, figuresTrue}
-use Rattle.stated_truth.specs.Judging.{judging}
-use Rattle.stated_truth.specs.Judging.{judgingRead, judgingShared}
+use Rattle.stated_truth.specs.Judging.{judging, judgingRead, judgingShared}
 
 module _ (n m : ℕ) (table : List (List ℕ)) (stated : Option Stated) where
   -- refused as the shares are

@@ -6,7 +6,7 @@ use Prim.Native.Nat.{ℕ}
 use lib.IntN.{ℤ}
 use Rattle.sheet.specs.Answers.{Answer, accepted, require, requireSome, andThen}
 use Rattle.shares.specs.Shares.{sharing}
-use Rattle.grading.specs.Scale.{marginsByTable}
+use Rattle.grades.specs.Scale.{marginsByTable}
 use Rattle.division_reading.specs.Stated.{Stated}
 use Rattle.stated_truth.specs.Truth.{bundlesOf, eachInOneOfAll, figuresTrue}
 

@@ -11,7 +11,7 @@ use Rattle.sheet.specs.Valuations.{value}
 use Rattle.sheet.specs.Tables.{valuation, allValues}
 use Rattle.sheet.specs.Allocations.{Allocates}
 use Rattle.shares.specs.Shares.{shareOf}
-use Rattle.grading.specs.Scale.{gradeByTable}
+use Rattle.grades.specs.Scale.{gradeByTable}
 use Rattle.division_reading.specs.Stated.{StatedLine, Stated}
 
 -- the bundles (piles) of the agents, in turn

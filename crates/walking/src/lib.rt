@@ -45,8 +45,8 @@ fn greatest_from_each(values: &[u64]) -> Values
 }
 
 // The search once it went through the growth partitions that go on from the first `at` places of `partition`; the values are still to be
-// laid, `greatest` has the greatest of them from each on, and a least bundle counts up to the ceiling. A branch in which none reaches the goal is left, and the allowance falls by the number of
-// its growth partitions at once.
+// laid, `greatest` has the greatest of them from each on, and a least bundle counts up to the ceiling. A branch in which none reaches the
+// goal is left, and the allowance falls by the number of its growth partitions at once.
 fn walk(
     values: &[u64],
     counts: &Counts,
@@ -159,7 +159,7 @@ fn is_searchable(values: &[u64], bundles: usize) -> bool
     supplied(values, Sheet::GREATEST_SUM + 1) <= Sheet::GREATEST_SUM
 }
 
-// The search of the values by a table of counts for at least so many items.
+// The search of the values, by a table of counts for at least as many items.
 fn find_by(
     values: &[u64],
     counts: &Counts,

@@ -13,7 +13,7 @@ use Rattle.shares.specs.Shares.{sharing}
 use Rattle.shares.specs.Outcome.{outcome}
 use Rattle.shares.specs.declared.Cut.{Cut}
 use Rattle.shares.specs.declared.Outcome.{Outcome}
-use Rattle.grading.specs.Grade.{gradeIn}
+use Rattle.grades.specs.Grade.{gradeIn}
 use Rattle.serving.specs.Serving.{agentsIn}
 use Rattle.margins.specs.Terms.{termsFor}
 use Rattle.division.specs.internal.Left.{instanceFrom, Ready}

@@ -26,7 +26,7 @@ use Rattle.sheet.proofs.sets.Items.{items-sublist, setOf-items}
 use Rattle.bundling.specs.Bundles.{bundle, bundleSets}
 use Rattle.bundling.proofs.Bundles.{itemsIn-sublist, itemsIn-append}
 use Rattle.cut.specs.Outcome.{placed}
-use Rattle.cut.proofs.Laws.{maximinPartition-within}
+use Rattle.maximin.proofs.Laws.{maximinPartition-within}
 use Rattle.matching.specs.Matching.{cutterOf, bundleNumbers, waitingOf, servedOf, chosenOf}
 use Rattle.matching.proofs.Congruence.{Agree}
 use Rattle.matching.proofs.Parts.{chosenOf-distinct, waitingOf-cong, servedOf-cong, chosenOf-cong}

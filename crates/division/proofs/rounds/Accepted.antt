@@ -18,7 +18,7 @@ use Rattle.sheet.specs.Amounts.{SmallAmounts}
 use Rattle.sheet.proofs.sets.Sets.{items-setOf}
 use Rattle.sheet.proofs.sets.Ranges.{setOf-below}
 use Rattle.growth.specs.Growth.{growths}
-use Rattle.cut.specs.Share.{maximinShare, maximinPartition}
+use Rattle.maximin.specs.Share.{maximinShare, maximinPartition}
 use Rattle.cut.specs.Outcome.{placed}
 use Rattle.shares.specs.Shares.{sharing}
 use Rattle.shares.specs.Outcome.{cutOf, blankCut, outcome as sharesOutcome}
@@ -26,10 +26,10 @@ use Rattle.shares.specs.declared.Cut.{Cut}
 use Rattle.shares.specs.declared.Outcome.{Outcome as SharesOutcome}
 use Rattle.shares.proofs.Profile.{nth-shares}
 use Rattle.shares.proofs.Outcomes.{shares-within, cuts-within, nth-share}
-use Rattle.grading.specs.Grade.{ownValues, valueTo, grade, worthsIn, gradeIn}
-use Rattle.grading.proofs.InPlaces.{nth-worthsIn}
+use Rattle.grades.specs.Grade.{ownValues, valueTo, grade, worthsIn, gradeIn}
+use Rattle.grades.proofs.InPlaces.{nth-worthsIn}
 use Rattle.margins.proofs.Stored.{nth-marginsStored}
-use Rattle.grading.proofs.Grades.{grade-cong, gradeIn-within}
+use Rattle.grades.proofs.Grades.{grade-cong, gradeIn-within}
 use Rattle.serving.specs.Serving.{agentsIn}
 use Rattle.serving.proofs.round.AgentsLeft.{agentsIn-items}
 use Rattle.margins.specs.Terms.{termsFor}

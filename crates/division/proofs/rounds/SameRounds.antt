@@ -18,7 +18,7 @@ use Rattle.sheet.specs.Tables.{valuation}
 use Rattle.sheet.proofs.valuing.Tables.{itemValue-profile}
 use Rattle.bundling.specs.Bundles.{itemsIn, bundle}
 use Rattle.bundling.proofs.Bundles.{itemsIn-sublist}
-use Rattle.cut.specs.Share.{maximinPartition}
+use Rattle.maximin.specs.Share.{maximinPartition}
 use Rattle.shares.proofs.Profile.{nth-shares}
 use Rattle.shares.specs.Shares.{sharing}
 use Rattle.shares.specs.Outcome.{outcome}

@@ -8,7 +8,7 @@ use Rattle.sheet.specs.Valuations.{itemValue}
 use Rattle.sheet.specs.Tables.{valuation}
 use Rattle.sheet.specs.Amounts.{SmallAmounts}
 use Rattle.growth.specs.Growth.{growths}
-use Rattle.cut.specs.Share.{maximinPartition}
+use Rattle.maximin.specs.Share.{maximinPartition}
 use Rattle.matching.specs.Matching.{cutterOf}
 use Rattle.serving.specs.Serving.{agentsIn}
 use Rattle.rounds.specs.Round.{Instance}

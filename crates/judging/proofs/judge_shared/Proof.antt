@@ -12,8 +12,8 @@ use Rattle.lists.specs.Lists.{range, nth, padded}
 use Rattle.sheet.specs.Limits.{mostAgents, mostItems}
 use Rattle.sheet.specs.Sets.{itemsOf}
 use Rattle.sheet.specs.Answers.{Answer}
-use Rattle.grading.specs.Grade.{gradeIn}
-use Rattle.grading.specs.Scale.{marginsByTable, gradeByTable}
+use Rattle.grades.specs.Grade.{gradeIn}
+use Rattle.grades.specs.Scale.{marginsByTable, gradeByTable}
 use Rattle.division_reading.specs.Stated.{Stated}
 use Rattle.stated_truth.specs.Truth.{bundlesOf, eachInOneOfAll, figuresTrue}
 use Rattle.judging.specs.Outcome.{statedIn, outcome}

@@ -5,7 +5,7 @@ use Prim.Native.Nat.{ℕ}
 use Rattle.lists.specs.Lists.{padded}
 use Rattle.sheet.specs.Limits.{mostAgents, CountsWithin}
 use Rattle.sheet.specs.Amounts.{SmallAmounts}
-use Rattle.grading.specs.Scale.{sharesOf}
+use Rattle.grades.specs.Scale.{sharesOf}
 
 -- the counts are within the limits, and the shares those of the table, and small
 pub record SharesIn (n m : ℕ) (table : List (List ℕ)) (shares : List ℕ) : Type 0 where

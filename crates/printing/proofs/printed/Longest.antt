@@ -16,7 +16,7 @@ use Rattle.sheet.specs.Limits.{mostAgents, mostItems, greatestMark, sumDigits, 
 use Rattle.sheet.specs.Answers.{accepted}
 use Rattle.sheet.specs.Valuations.{itemValue, value}
 use Rattle.sheet.specs.Tables.{valuation, allValues}
-use Rattle.cut.proofs.Laws.{shares-le-total}
+use Rattle.maximin.proofs.Laws.{shares-le-total}
 use Rattle.growth.specs.Growth.{growths}
 use Rattle.shares.specs.Shares.{shareOf}
 use Rattle.shares.proofs.Profile.{nth-shares}

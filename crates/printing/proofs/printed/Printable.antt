@@ -11,9 +11,9 @@ use Rattle.lists.proofs.ranges.Ranges.{length-range, mem-within, nth-map-range}
 use Rattle.lists.proofs.members.Counting.{sublist-mem}
 use Rattle.sheet.specs.Valuations.{itemValue}
 use Rattle.sheet.specs.Tables.{valuation, allValues, profile}
-use Rattle.cut.specs.Share.{maximinShare, maximinPartition}
-use Rattle.cut.proofs.Laws.{maximinPartition-within}
-use Rattle.grading.proofs.Grades.{grade-bounds}
+use Rattle.maximin.specs.Share.{maximinShare, maximinPartition}
+use Rattle.maximin.proofs.Laws.{maximinPartition-within}
+use Rattle.grades.proofs.Grades.{grade-bounds}
 use Rattle.matching.proofs.Cutter.{cutterOf-mem}
 use Rattle.margins.specs.Terms.{termsFor}
 use Rattle.rounds.specs.Round.{Instance, Round, round, rounds, held}

@@ -9,8 +9,8 @@ use Rattle.lists.specs.Lists.{range}
 use Rattle.lists.specs.Sums.{total}
 use Rattle.lists.proofs.ranges.Ranges.{range-bounds}
 use Rattle.lists.proofs.sums.LeastOf.{leastOf-le, leastOf-attained}
-use Rattle.cut.specs.Share.{bundleValue, leastBundle, maximinShare, maximinPartition}
-use Rattle.cut.proofs.Laws.{leastBundle-le-maximinShare, maximinPartition-within, leastBundle-maximinPartition}
+use Rattle.maximin.specs.Share.{bundleValue, leastBundle, maximinShare, maximinPartition}
+use Rattle.maximin.proofs.Laws.{leastBundle-le-maximinShare, maximinPartition-within, leastBundle-maximinPartition}
 use Rattle.margins.specs.declared.Terms.{Terms}
 use Rattle.rounds.proofs.density.Deficit.{deficit, deficit-le-total}
 use Rattle.rounds.proofs.density.Partition.{IsPartition, empty, place, isPartition-length, isPartition-within, within-isPartition}

@@ -12,7 +12,7 @@ use borrow.Author.Tests.{eq-eqb, ne-eqb}
 use Rattle.lists.specs.Sums.{total}
 use Rattle.lists.specs.Lists.{Within}
 use Rattle.lists.proofs.Cases.{eq-or-ne}
-use Rattle.cut.specs.Share.{bundleValue}
+use Rattle.maximin.specs.Share.{bundleValue}
 
 -- l gives each of the values the number of a bundle, from 1 to n
 pub data IsPartition (n : ℕ) : List ℕ → List ℕ → Type 0 where

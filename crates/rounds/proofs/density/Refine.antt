@@ -4,7 +4,7 @@ use mathlib.Core.List.{List, _∷_}
 use Prim.Native.Nat.{ℕ, _+_}
 use native.Mathlib.Nat.{add-left-comm}
 use native.Mathlib.Omega.{arith}
-use Rattle.cut.specs.Share.{bundleValue}
+use Rattle.maximin.specs.Share.{bundleValue}
 use Rattle.rounds.proofs.density.Partition.{IsPartition, place, valueIf, valueIf-add}
 use Rattle.rounds.proofs.density.Sort.{Perm, perm-refl, perm-cons, perm-swap, perm-trans}
 

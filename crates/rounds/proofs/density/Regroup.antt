@@ -10,7 +10,7 @@ use lib.ListN.{length, length-map}
 use Rattle.lists.specs.Lists.{range}
 use Rattle.lists.specs.Sums.{total}
 use Rattle.lists.proofs.ranges.Ranges.{range-bounds, length-range}
-use Rattle.cut.specs.Share.{bundleValue}
+use Rattle.maximin.specs.Share.{bundleValue}
 use Rattle.rounds.proofs.density.Partition.{IsPartition, empty, place, isPartition-length, valueIf, valueIf-same, valueIf-other, valueIf-le, valueIf-add, bundleValue-le-total, oneBundle, oneBundle-partition, bundleValue-oneBundle}
 use Rattle.rounds.proofs.density.Refine.{Refines}
 

@@ -8,7 +8,7 @@ use native.Mathlib.Decide.{decLe, ℕ-discrete}
 use native.Mathlib.Omega.{arith}
 use lib.ListN.{length}
 use Rattle.lists.specs.Sums.{total}
-use Rattle.cut.specs.Share.{bundleValue}
+use Rattle.maximin.specs.Share.{bundleValue}
 use Rattle.rounds.proofs.density.Deficit.{deficit}
 use Rattle.rounds.proofs.density.Partition.{IsPartition, empty, place, isPartition-weaken, valueIf-same, oneBundle, oneBundle-partition, bundleValue-oneBundle}
 use Rattle.rounds.proofs.density.Sort.{Ascending, none, next}

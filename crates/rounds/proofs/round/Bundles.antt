@@ -12,7 +12,7 @@ use Rattle.lists.specs.Lists.{consIf, elem, distinct}
 use Rattle.lists.specs.Sums.{sumOver}
 use Rattle.lists.proofs.members.Distinct.{eqb-comm}
 use Rattle.lists.proofs.sums.Totals.{sumOver-consIf, sumOver-add, sumOver-cong}
-use Rattle.cut.specs.Share.{bundleValue}
+use Rattle.maximin.specs.Share.{bundleValue}
 use Rattle.bundling.specs.Bundles.{itemsIn, bundle}
 use Rattle.rounds.proofs.density.Partition.{valueIf}
 

@@ -16,8 +16,8 @@ use Rattle.lists.proofs.members.Counting.{reject-sublist, sublist-mem, length-s
 use Rattle.lists.proofs.members.Distinct.{range-distinct, submultiset-distinct, mem-elem}
 use Rattle.lists.proofs.sums.Totals.{sumOver-le, map-sublist}
 use Rattle.sheet.specs.Valuations.{itemValue, value}
-use Rattle.cut.specs.Share.{bundleValue, maximinShare}
-use Rattle.cut.proofs.Laws.{maximinPartition-within, leastBundle-maximinPartition}
+use Rattle.maximin.specs.Share.{bundleValue, maximinShare}
+use Rattle.maximin.proofs.Laws.{maximinPartition-within, leastBundle-maximinPartition}
 use Rattle.sheet.specs.Tables.{valuation}
 use Rattle.shares.specs.Shares.{shareOf}
 use Rattle.matching.specs.Matching.{Matched, cutterOf, bundleNumbers, waitingOf, servedOf, freeOf, chosenOf}

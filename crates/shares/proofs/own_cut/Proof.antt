@@ -7,7 +7,7 @@ use native.Mathlib.Omega.{arith}
 use Rattle.sheet.specs.Limits.{mostItems}
 use Rattle.sheet.specs.Answers.{accepted}
 use Rattle.sheet.specs.Tables.{allValues}
-use Rattle.cut.specs.Share.{maximinShare}
+use Rattle.maximin.specs.Share.{maximinShare}
 use Rattle.cut.specs.Outcome.{cutting, wholeCut, outcome}
 use Rattle.shares.specs.declared.OwnCut.{OwnCut}
 use Rattle.shares.proofs.Marks.{marks-small, share-small}

@@ -6,7 +6,7 @@ use Rattle.lists.specs.Lists.{padded}
 use Rattle.sheet.specs.Limits.{mostAgents, InUse}
 use Rattle.sheet.specs.Tables.{profile}
 use Rattle.sheet.specs.Amounts.{SmallAmounts}
-use Rattle.cut.specs.Share.{maximinShare, maximinPartition}
+use Rattle.maximin.specs.Share.{maximinShare, maximinPartition}
 use Rattle.shares.specs.Outcome.{cutOf}
 use Rattle.shares.specs.declared.OwnCut.{OwnCut}
 

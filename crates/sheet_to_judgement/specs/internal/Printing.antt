@@ -5,7 +5,7 @@ use Prim.Native.Nat.{ℕ}
 use Rattle.sheet.specs.Answers.{Answer, andThen}
 use Rattle.writing.specs.Filled.{filling}
 use Rattle.division_reading.specs.Stated.{Stated}
-use Rattle.judging.specs.Judging.{judging}
+use Rattle.stated_truth.specs.Judging.{judging}
 use Rattle.sheet_to_judgement.specs.AcceptedText.{acceptedText}
 
 -- the text for what a division of the table states, in a buffer of so many bytes

@@ -13,7 +13,7 @@ use Rattle.sheet.specs.Sets.{itemsOf}
 use Rattle.sheet.specs.Valuations.{itemValue, valuesOf}
 use Rattle.sheet.proofs.listing.Listed.{number-at}
 use Rattle.growth.specs.Growth.{growths}
-use Rattle.cut.specs.Share.{maximinPartition}
+use Rattle.maximin.specs.Share.{maximinPartition}
 use Rattle.cut.specs.Outcome.{outcome, placed}
 use Rattle.cut.proofs.Allowance.{cutting-shared}
 use Rattle.matching.proofs.Cutter.{cutterOf-first}
