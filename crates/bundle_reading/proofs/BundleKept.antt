@@ -4,7 +4,7 @@ use mathlib.Core.List.{List}
 use mathlib.Core.Option.{some}
 use Prim.Native.Nat.{ℕ}
 use Rattle.sheet.specs.Sets.{setOf}
-use Rattle.lexing.specs.Tokens.{Token}
+use Rattle.tokens.specs.Tokens.{Token}
 use Rattle.lexing.specs.Forms.{_>>=_, form, follow}
 use Rattle.bundle_reading.specs.Bundles.{pileEnd, risingItems, bundleAfter}
 use Rattle.bundle_reading.specs.Kept.{keptBundle}

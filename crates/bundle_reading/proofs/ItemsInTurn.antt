@@ -10,7 +10,7 @@ use lib.Dec.{leb, ltb}
 use borrow.Author.Tests.{lt-ltb, le-ltb, le-leb, lt-leb}
 use Rattle.sheet.specs.Limits.{countDigits, mostItems}
 use Rattle.sheet.specs.Sets.{setOf}
-use Rattle.lexing.specs.Tokens.{Token}
+use Rattle.tokens.specs.Tokens.{Token}
 use Rattle.lexing.specs.Forms.{_>>=_}
 use Rattle.lexing.specs.Numbers.{isNumber, digitsAfter, number}
 use Rattle.lexing.proofs.readers.Tested.{number-passed}

@@ -7,7 +7,7 @@ use mathlib.Core.Option.{Option, none, some}
 use mathlib.Core.Bool.{cond, _&&_}
 use lib.Dec.{leb, ltb}
 use Rattle.sheet.specs.Limits.{countDigits}
-use Rattle.lexing.specs.Tokens.{Token}
+use Rattle.tokens.specs.Tokens.{Token}
 use Rattle.lexing.specs.Forms.{_>>=_, follow, form}
 use Rattle.lexing.specs.Numbers.{isNumber, digitsAfter}
 

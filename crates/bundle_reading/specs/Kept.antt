@@ -3,7 +3,7 @@ use mathlib.Core.List.{List}
 use mathlib.Core.Option.{Option, none, some}
 use Prim.Native.Nat.{ℕ}
 use Rattle.sheet.specs.Sets.{setOf}
-use Rattle.lexing.specs.Tokens.{Token}
+use Rattle.tokens.specs.Tokens.{Token}
 
 -- what is read, made into something else
 unfoldable pub mapRead : {A B : Type 0} → (A → B) → Option (A × List Token) → Option (B × List Token)

@@ -2,8 +2,8 @@
 ghost use Prim.Native.Nat.{_≤_, _-_, _^_, min};
 ghost use mathlib.Core.Path.{_≡_};
 ghost use Rattle.sheet.specs.Limits.{mostItems};
-ghost use Rattle.lexing.specs.Tokens.{tokens};
-ghost use Rattle.lexing.specs.Places.{tokensAt};
+ghost use Rattle.tokens.specs.Tokens.{tokens};
+ghost use Rattle.tokeniser.specs.Places.{tokensAt};
 ghost use Rattle.bundle_reading.specs.Bundles.{risingItems, bundleAfter};
 ghost use Rattle.bundle_reading.specs.Kept.{keptBundle};
 ghost use Rattle.bundle_reading.specs.Results.{ReadsBundle};

@@ -4,7 +4,7 @@ use Prim.Native.Nat.{ℕ}
 use mathlib.Core.List.{List}
 use mathlib.Core.Option.{Option, some}
 use Rattle.sheet.specs.Limits.{countDigits, sumDigits}
-use Rattle.lexing.specs.Tokens.{Token}
+use Rattle.tokens.specs.Tokens.{Token}
 use Rattle.lexing.specs.Forms.{_>>=_, follow, form}
 use Rattle.lexing.specs.Numbers.{numberAfter, followNumber}
 use Rattle.sheet_lines.specs.SheetForms.{beforeItems, lineEnd}

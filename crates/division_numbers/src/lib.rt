@@ -1,5 +1,5 @@
 // Reading the numbers that a division states at any place of a text: counts and grade in its head, worth and share in a yard line.
-ghost use Rattle.lexing.specs.Places.{tokensAt};
+ghost use Rattle.tokeniser.specs.Places.{tokensAt};
 ghost use Rattle.lexing.specs.Results.{ReadsNumber};
 ghost use Rattle.division_numbers.specs.Numbers.{amounts, head};
 ghost use Rattle.division_numbers.specs.Results.{ReadsAmounts};

@@ -5,8 +5,8 @@ use mathlib.Core.List.{List, [], _∷_, map, flatMap}
 use mathlib.Core.Option.{Option, none, some}
 use Prim.Native.String.{String}
 use Rattle.text.specs.Bytes.{bytes}
-use Rattle.lexing.specs.Lines.{onFirst, lines, beforeRemark}
-use Rattle.lexing.specs.Tokens.{extended, words, lineTokens, tokens}
+use Rattle.tokens.specs.Lines.{onFirst, lines, beforeRemark}
+use Rattle.tokens.specs.Tokens.{extended, words, lineTokens, tokens}
 use Rattle.lexing.specs.Forms.{follow, inTurn}
 use Rattle.lexing.specs.Numbers.{numberAfter, number, digitsAfter, isNumber}
 use Rattle.sheet_lines.specs.Grammar.{endLine}

@@ -18,7 +18,7 @@ use Rattle.lists.proofs.ranges.RangeSublists.{rising-range-sublist}
 use Rattle.sheet.specs.Limits.{mostItems, setBits, countDigits, sumDigits}
 use Rattle.sheet.specs.Sets.{itemsOf, setOf}
 use Rattle.sheet.proofs.sets.Sets.{items-setOf}
-use Rattle.lexing.specs.Tokens.{Token}
+use Rattle.tokens.specs.Tokens.{Token}
 use Rattle.lexing.specs.Forms.{_>>=_, ended, form, follow}
 use Rattle.lexing.specs.Numbers.{isNumber, digitsAfter, numberAfter, followNumber}
 use Rattle.lexing.proofs.readers.InTurn.{Holds, then-holds, read-holds, holds-both, in-turn-length, in-turn-each}

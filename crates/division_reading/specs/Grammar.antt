@@ -8,7 +8,7 @@ use mathlib.Core.Option.{Option, none, some}
 use mathlib.Core.Bool.{cond, _&&_}
 use lib.Dec.{leb}
 use Rattle.sheet.specs.Limits.{mostAgents, mostItems, countDigits}
-use Rattle.lexing.specs.Tokens.{Token}
+use Rattle.tokens.specs.Tokens.{Token}
 use Rattle.lexing.specs.Forms.{_>>=_, ended, follow, form, inTurn}
 use Rattle.lexing.specs.Numbers.{followNumber}
 use Rattle.sheet_lines.specs.SheetForms.{beforeTurn, lineEnd}

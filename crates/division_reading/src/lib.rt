@@ -1,7 +1,7 @@
 // Reading a division, as members bring it, at a place of a text: all that it states, or that it is off the layout.
 ghost use mathlib.Core.Path.{_≡_};
 ghost use mathlib.Core.Option.{none};
-ghost use Rattle.lexing.specs.Places.{tokensAt};
+ghost use Rattle.tokeniser.specs.Places.{tokensAt};
 ghost use Rattle.division_reading.specs.Grammar.{divisionWithin};
 ghost use Rattle.division_reading.specs.Outcome.{blankLine, blankLines, kept};
 use division_numbers::read_head;

@@ -3,7 +3,7 @@ ghost use Prim.Native.Nat.{_≤_};
 ghost use mathlib.Core.Path.{_≡_};
 ghost use mathlib.Core.Bool.{false};
 ghost use Rattle.sheet.specs.Limits.{mostAgents, mostItems};
-ghost use Rattle.lexing.specs.Places.{tokensAt};
+ghost use Rattle.tokeniser.specs.Places.{tokensAt};
 ghost use Rattle.bundle_reading.specs.Kept.{mapRead, keptBundle};
 ghost use Rattle.bundle_reading.specs.Results.{ReadsBundle};
 ghost use Rattle.division_reading.specs.Grammar.{bundleInTurn, cutBundles, yardLine, yardLines};

@@ -1,5 +1,4 @@
 -- What readers of forms and numbers read.
-pub use Rattle.numerals.proofs.DecimalDigits as Decimal
 pub mod Same
 pub mod Numbers
 pub mod Tested

@@ -1,7 +1,2 @@
--- The tokens of a text: of numbers in it, and what the crates below prove of them.
-pub use Rattle.tokens.proofs.texts.HaveBytes
-pub use Rattle.tokens.proofs.texts.Parts
-pub use Rattle.tokens.proofs.texts.BehindLine
-pub use Rattle.tokens.proofs.texts.Respaced
-pub use Rattle.tokeniser.proofs.Places
+-- The tokens of a text: of numbers in it.
 pub mod Numbers

@@ -10,7 +10,7 @@ use Rattle.sheet.specs.Limits.{greatestMark, longestText}
 use Rattle.sheet.specs.Answers.{accepted}
 use Rattle.sheet.specs.Valuations.{itemValue}
 use Rattle.sheet.specs.Tables.{valuation}
-use Rattle.lexing.specs.Tokens.{tokens}
+use Rattle.tokens.specs.Tokens.{tokens}
 use Rattle.reading.specs.Reading.{Contents}
 use Rattle.reading.proofs.SmallMarks.{table-small}
 use Rattle.strict_text.specs.StrictText.{strictText, inUse}

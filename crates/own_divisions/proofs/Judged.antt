@@ -5,7 +5,7 @@ use mathlib.Core.List.{List}
 use mathlib.Core.Option.{some}
 use Prim.Native.Nat.{ℕ}
 use Rattle.sheet.specs.Answers.{accepted}
-use Rattle.lexing.specs.Tokens.{tokens}
+use Rattle.tokens.specs.Tokens.{tokens}
 use Rattle.reading.specs.Reading.{Contents}
 use Rattle.strict_text.specs.WithinLimits.{WithinLimits}
 use Rattle.rounds.specs.Division.{Division, answer}

@@ -6,10 +6,10 @@ use Prim.Native.Nat.{ℕ}
 use Rattle.lists.specs.Lists.{range, nth}
 use Rattle.text.specs.Bytes.{bytes}
 use Rattle.text.specs.Decimal.{decimal, spacedNumber}
-use Rattle.lexing.specs.Lines.{space, lines, onFirst, beforeRemark}
-use Rattle.lexing.specs.Tokens.{Token, opening, closing, isBracket, extended, words, lineTokens as tokensOfLine, tokens}
+use Rattle.tokens.specs.Lines.{space, lines, onFirst, beforeRemark}
+use Rattle.tokens.specs.Tokens.{Token, opening, closing, isBracket, extended, words, lineTokens as tokensOfLine, tokens}
 use Rattle.lexing.specs.Forms.{form}
-use Rattle.lexing.proofs.texts.Parts.{begunAfter, noRemark, Lexes, lexed-tokens, _then_, nothing-lexed, space-lexed, bracketed-lexed}
+use Rattle.tokens.proofs.texts.Parts.{begunAfter, noRemark, Lexes, lexed-tokens, _then_, nothing-lexed, space-lexed, bracketed-lexed}
 use Rattle.lexing.proofs.texts.Numbers.{number-lexed, numbers-lexed, bracket-number-lexed, parts-lexed}
 use Rattle.writing.specs.Fields.{field, group}
 use Rattle.sheet_lines.specs.SheetForms.{beforeItems, beforeTurn, lineEnd}

@@ -9,7 +9,7 @@ use Rattle.sheet.specs.Limits.{mostAgents, mostItems, greatestMark, sumDigits}
 use Rattle.sheet.specs.Answers.{accepted}
 use Rattle.sheet.specs.Valuations.{itemValue, value}
 use Rattle.sheet.specs.Tables.{valuation}
-use Rattle.lexing.specs.Tokens.{tokens}
+use Rattle.tokens.specs.Tokens.{tokens}
 use Rattle.bundling.specs.Bundles.{bundle}
 use Rattle.bundling.proofs.Bundles.{itemsIn-sublist}
 use Rattle.rounds.specs.Division.{Division, divisionByRounds, answer}

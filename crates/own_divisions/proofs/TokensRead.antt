@@ -14,11 +14,11 @@ use Rattle.lists.proofs.ranges.RangeSublists.{range-sublist-rising}
 use Rattle.lists.proofs.members.Counting.{sublist-mem}
 use Rattle.text.specs.Decimal.{decimal}
 use Rattle.sheet.specs.Limits.{mostAgents, mostItems, countDigits, sumDigits}
-use Rattle.lexing.specs.Lines.{lines, onFirst, beforeRemark}
-use Rattle.lexing.specs.Tokens.{Token, closing, extended, words, lineTokens as tokensOfLine, tokens}
+use Rattle.tokens.specs.Lines.{lines, onFirst, beforeRemark}
+use Rattle.tokens.specs.Tokens.{Token, closing, extended, words, lineTokens as tokensOfLine, tokens}
 use Rattle.lexing.specs.Forms.{ended, follow, form}
 use Rattle.lexing.specs.Numbers.{isNumber}
-use Rattle.lexing.proofs.readers.Decimal.{decimal-value, decimal-isNumber}
+use Rattle.numerals.proofs.DecimalDigits.{decimal-value, decimal-isNumber}
 use Rattle.lexing.proofs.readers.Written.{follow-append, numberAfter-decimal, followNumber-decimal, inTurn-range}
 use Rattle.sheet_lines.specs.SheetForms.{beforeItems, beforeTurn, lineEnd, lastLine}
 use Rattle.sheet_lines.specs.Grammar.{endLine}

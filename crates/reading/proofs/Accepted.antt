@@ -12,7 +12,7 @@ use Rattle.sheet.specs.Limits.{MarkLimits, longestText, mostAgents, mostItems, 
 use Rattle.sheet.specs.Answers.{Answer, refused, accepted, andThen}
 use Rattle.sheet.proofs.Accepted.{refused-not-accepted, required, requiredSome}
 use Rattle.sheet.proofs.Limits.{within-bounds}
-use Rattle.lexing.specs.Tokens.{Token, tokens}
+use Rattle.tokens.specs.Tokens.{Token, tokens}
 use Rattle.lexing.specs.Forms.{_>>=_, ended, form, follow}
 use Rattle.sheet_lines.specs.SheetForms.{lastLine}
 use Rattle.sheet_lines.specs.Grammar.{head, Body, body, endLine}

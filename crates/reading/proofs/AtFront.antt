@@ -10,7 +10,7 @@ use lib.ListN.{length}
 use lib.Dec.{leb, ltb}
 use Rattle.sheet.specs.Limits.{MarkLimits, markLimits, longestText, mostAgents, mostItems, within}
 use Rattle.sheet.specs.Answers.{Answer, refused, accepted, require, requireSome}
-use Rattle.lexing.specs.Tokens.{Token, tokens}
+use Rattle.tokens.specs.Tokens.{Token, tokens}
 use Rattle.lexing.specs.Forms.{_>>=_, ended, form, follow}
 use Rattle.sheet_lines.specs.SheetForms.{lastLine}
 use Rattle.sheet_lines.specs.Grammar.{head, body, anything, endLine}

@@ -8,7 +8,7 @@ use lib.ListN.{length}
 use Rattle.lists.specs.Lists.{all}
 use Rattle.sheet.specs.Limits.{MarkLimits, mostAgents, mostItems, markLimits, longestText, within}
 use Rattle.sheet.proofs.Refusals.{NeverRefused, never-accepted, never-require, never-requireSome, never-andThen}
-use Rattle.lexing.specs.Tokens.{Token, tokens}
+use Rattle.tokens.specs.Tokens.{Token, tokens}
 use Rattle.lexing.specs.Forms.{ended}
 use Rattle.sheet_lines.specs.Grammar.{head, Body, body, anything, endLine}
 use Rattle.sheet_lines.specs.Marks.{allowedRow}

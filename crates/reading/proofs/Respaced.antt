@@ -7,9 +7,9 @@ use native.Mathlib.Omega.{arith}
 use lib.ListN.{length}
 use borrow.Author.Tests.{le-leb, lt-ltb}
 use Rattle.sheet.specs.Limits.{longestText}
-use Rattle.lexing.specs.Tokens.{tokens}
-use Rattle.lexing.specs.Respaced.{Respaced}
-use Rattle.lexing.proofs.texts.Respaced.{respaced-tokens, respaced-longer}
+use Rattle.tokens.specs.Tokens.{tokens}
+use Rattle.tokens.specs.Respaced.{Respaced}
+use Rattle.tokens.proofs.texts.Respaced.{respaced-tokens, respaced-longer}
 use Rattle.reading.specs.Reading.{reading}
 
 -- texts of at least one byte and not too many, with the same tokens, read to the same

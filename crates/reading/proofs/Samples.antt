@@ -1,5 +1,5 @@
--- Sample sheet a of document 01, of its sample j, as order 3 of document 02 has it, all but the text of 4,097 bytes, texts as order 1 has
--- them, and sheets before another text as order 5 has them, by computation. Assumes nothing.
+-- Sample j of document 01, as order 3 of document 02 has it, all but the text of 4,097 bytes, texts as order 1 has them, and sheets before
+-- another text as order 5 has them, by computation (sheet a stands in SheetA.antt). Assumes nothing.
 use mathlib.Core.Path.{_≡_, refl}
 use mathlib.Core.List.{List, [], _∷_, _++_, map, flatMap}
 use lib.ListN.{replicate}
@@ -8,13 +8,14 @@ use Prim.Native.String.{String}
 use Rattle.sheet.specs.Limits.{earlierMarkLimits}
 use Rattle.sheet.specs.Answers.{Answer, refused, accepted}
 use Rattle.text.specs.Bytes.{bytes}
-use Rattle.lexing.specs.Lines.{space, onFirst, lines, beforeRemark}
-use Rattle.lexing.specs.Tokens.{Token, extended, words, lineTokens, tokens}
+use Rattle.tokens.specs.Lines.{space, onFirst, lines, beforeRemark}
+use Rattle.tokens.specs.Tokens.{Token, extended, words, lineTokens, tokens}
 use Rattle.lexing.specs.Forms.{form, follow, inTurn}
 use Rattle.lexing.specs.Numbers.{numberAfter, number, digitsAfter, isNumber}
 use Rattle.sheet_lines.specs.Grammar.{endLine, body, yardLine, yardTurn, head}
 use Rattle.sheet_lines.specs.Kept.{tableOf}
 use Rattle.reading.specs.Reading.{Contents, contentsOf, readingWithin, reading, readingFront}
+use Rattle.reading.specs.SampleTexts.{sheetA}
 
 -- the contents of a text with these counts and these rows of marks
 abbrev contents : ℕ → ℕ → List (List ℕ) → Answer Contents
@@ -23,8 +24,7 @@ contents agents items rows = accepted (record { agents = agents; items = items; 
 -- each text with what reading it answers
 abbrev pub samples : List (String × Answer Contents)
 samples =
-    ("(sheet (yards 2) (pieces 3))\n(yard 1 (marks 5 3 4))\n(yard 2 (marks 6 2 2))\n(end)\n", contents 2 3 ((5 ∷ 3 ∷ 4 ∷ []) ∷ (6 ∷ 2 ∷ 2 ∷ []) ∷ []))
-    ∷ ("(sheet (yards 6) (pieces 1))\n(yard 1 (marks 1))\n(yard 2 (marks 2))\n(yard 3 (marks 3))\n(yard 4 (marks 4))\n(yard 5 (marks 5))\n(yard 6 (marks 6))\n(end)\n", contents 6 1 ((1 ∷ []) ∷ (2 ∷ []) ∷ (3 ∷ []) ∷ (4 ∷ []) ∷ (5 ∷ []) ∷ (6 ∷ []) ∷ []))
+    ("(sheet (yards 6) (pieces 1))\n(yard 1 (marks 1))\n(yard 2 (marks 2))\n(yard 3 (marks 3))\n(yard 4 (marks 4))\n(yard 5 (marks 5))\n(yard 6 (marks 6))\n(end)\n", contents 6 1 ((1 ∷ []) ∷ (2 ∷ []) ∷ (3 ∷ []) ∷ (4 ∷ []) ∷ (5 ∷ []) ∷ (6 ∷ []) ∷ []))
     ∷ ("(sheet (yards 0) (pieces 1))\n(end)\n", refused 4)
     ∷ ("(sheet (yards 7) (pieces 1))\n(end)\n", refused 4)
     ∷ ("(sheet (yards 1) (pieces 12))\n(yard 1 (marks 1 2 3 4 5 6 7 8 9 10 11 12))\n(end)\n", contents 1 12 ((1 ∷ 2 ∷ 3 ∷ 4 ∷ 5 ∷ 6 ∷ 7 ∷ 8 ∷ 9 ∷ 10 ∷ 11 ∷ 12 ∷ []) ∷ []))
@@ -76,7 +76,7 @@ typed-read = refl
 
 -- refusal 1 counts the bytes as typed: sheet a with so many spaces behind it that the text has 4,096 bytes, and 4,097
 abbrev spaced : ℕ → List ℕ
-spaced n = bytes "(sheet (yards 2) (pieces 3))\n(yard 1 (marks 5 3 4))\n(yard 2 (marks 6 2 2))\n(end)\n" ++ replicate n space
+spaced n = sheetA ++ replicate n space
 
 pub bytes-counted-as-typed : map reading (spaced 4015 ∷ spaced 4016 ∷ []) ≡ contents 2 3 ((5 ∷ 3 ∷ 4 ∷ []) ∷ (6 ∷ 2 ∷ 2 ∷ []) ∷ []) ∷ refused 1 ∷ []
 unfolding reading contentsOf endLine body yardLine yardTurn head numberAfter number digitsAfter isNumber follow inTurn onFirst lines beforeRemark extended words lineTokens tokens flatMap

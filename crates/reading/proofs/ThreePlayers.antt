@@ -5,8 +5,8 @@ use Prim.Native.Nat.{ℕ}
 use Rattle.text.specs.Bytes.{bytes}
 use Rattle.sheet.specs.Answers.{accepted}
 use Rattle.sheet.proofs.ThreePlayers.{players}
-use Rattle.lexing.specs.Lines.{onFirst, lines, beforeRemark}
-use Rattle.lexing.specs.Tokens.{extended, words, lineTokens, tokens}
+use Rattle.tokens.specs.Lines.{onFirst, lines, beforeRemark}
+use Rattle.tokens.specs.Tokens.{extended, words, lineTokens, tokens}
 use Rattle.lexing.specs.Forms as forms
 use Rattle.lexing.specs.Numbers as numbers
 use Rattle.sheet_lines.specs.Grammar as grammar

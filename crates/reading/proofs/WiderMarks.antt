@@ -10,7 +10,7 @@ use borrow.Author.Tests.{leb-true, le-leb}
 use Rattle.lists.proofs.members.Each.{all-weaker}
 use Rattle.sheet.specs.Limits.{MarkLimits, earlierMarkLimits, markLimits}
 use Rattle.sheet.specs.Answers.{Answer, accepted, andThen}
-use Rattle.lexing.specs.Tokens.{Token}
+use Rattle.tokens.specs.Tokens.{Token}
 use Rattle.lexing.specs.Forms.{_>>=_, form, follow}
 use Rattle.lexing.specs.Numbers.{number}
 use Rattle.lexing.proofs.readers.AlsoReads.{AlsoReads, also-itself, then-also, in-turn-also, number-also}

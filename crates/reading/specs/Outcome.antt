@@ -5,8 +5,8 @@ use Prim.Native.Nat.{ℕ, _≤_}
 use lib.ListN.{length}
 use Rattle.sheet.specs.Limits.{blankTable}
 use Rattle.sheet.specs.Answers.{Answer, refused, accepted}
-use Rattle.lexing.specs.Tokens.{Token}
-use Rattle.lexing.specs.Places.{tokensAt, start}
+use Rattle.tokens.specs.Tokens.{Token}
+use Rattle.tokeniser.specs.Places.{tokensAt, start}
 use Rattle.tokeniser.specs.declared.Cursor.{Cursor}
 use Rattle.sheet_lines.specs.Kept.{yard}
 use Rattle.sheet_lines.specs.declared.yards.Yard.{Yard}

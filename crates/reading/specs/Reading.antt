@@ -8,7 +8,7 @@ use lib.Dec.{leb, ltb}
 use Rattle.lists.specs.Lists.{all}
 use Rattle.sheet.specs.Limits.{MarkLimits, mostAgents, mostItems, markLimits, longestText, within}
 use Rattle.sheet.specs.Answers.{Answer, accepted, require, andThen, requireSome}
-use Rattle.lexing.specs.Tokens.{Token, tokens}
+use Rattle.tokens.specs.Tokens.{Token, tokens}
 use Rattle.lexing.specs.Forms.{ended}
 use Rattle.sheet_lines.specs.Grammar.{head, Body, body, anything, endLine}
 use Rattle.sheet_lines.specs.Marks.{allowedRow}

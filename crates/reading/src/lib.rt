@@ -2,7 +2,7 @@
 ghost use mathlib.Core.Path.{_≡_};
 ghost use Rattle.sheet.specs.Answers;
 ghost use Rattle.sheet.specs.Limits.{markLimits};
-ghost use Rattle.lexing.specs.Places.{start};
+ghost use Rattle.tokeniser.specs.Places.{start};
 ghost use Rattle.sheet_lines.specs.Alone.{mayFollow};
 ghost use Rattle.reading.specs.Reading.{sheetAtFront, reading, readingFront};
 ghost use Rattle.reading.specs.Outcome.{outcome, tableIn, ReadsFront};

@@ -8,7 +8,7 @@ use native.Mathlib.Omega.{arith}
 use lib.ListN.{length}
 use Rattle.lists.proofs.members.Each.{AllOfLength}
 use Rattle.sheet.specs.Limits.{mostAgents, mostItems, markDigits}
-use Rattle.lexing.specs.Tokens.{Token}
+use Rattle.tokens.specs.Tokens.{Token}
 use Rattle.lexing.specs.Forms.{_>>=_}
 use Rattle.lexing.proofs.readers.InTurn.{Holds}
 use Rattle.sheet_lines.specs.Grammar as grammar

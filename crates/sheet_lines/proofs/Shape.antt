@@ -5,7 +5,7 @@ use mathlib.Core.Option.{some}
 use Prim.Native.Nat.{ℕ}
 use lib.ListN.{length}
 use Rattle.lists.proofs.members.Each.{AllOfLength}
-use Rattle.lexing.specs.Tokens.{Token}
+use Rattle.tokens.specs.Tokens.{Token}
 use Rattle.lexing.specs.Forms.{form, follow}
 use Rattle.lexing.specs.Numbers.{number}
 use Rattle.lexing.proofs.readers.InTurn.{Holds, then-holds, read-holds, holds-both, in-turn-length, in-turn-each}

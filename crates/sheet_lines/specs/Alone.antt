@@ -2,7 +2,7 @@
 -- definitions.
 use mathlib.Core.List.{List}
 use mathlib.Core.Bool.{Bool, true, false}
-use Rattle.lexing.specs.Tokens.{Token}
+use Rattle.tokens.specs.Tokens.{Token}
 use Rattle.lexing.specs.Forms.{ended}
 use Rattle.sheet_lines.specs.Grammar.{anything}
 

@@ -6,8 +6,8 @@ use mathlib.Core.Bool.{true, false}
 use Prim.Native.Nat.{ℕ}
 use Rattle.lists.specs.Lists.{all}
 use Rattle.sheet.specs.Limits.{greatestMark}
-use Rattle.lexing.specs.Tokens.{Token}
-use Rattle.lexing.specs.Places.{tokensAt, start}
+use Rattle.tokens.specs.Tokens.{Token}
+use Rattle.tokeniser.specs.Places.{tokensAt, start}
 use Rattle.sheet_lines.specs.Grammar as grammar
 use Rattle.sheet_lines.specs.Marks.{allowedRow}
 use Rattle.sheet_lines.specs.Kept.{blankYards, keptYards}

@@ -2,7 +2,7 @@
 ghost use Prim.Native.Nat.{_≤_, min};
 ghost use mathlib.Core.Path.{_≡_};
 ghost use Rattle.sheet.specs.Limits.{mostAgents, mostItems, markDigits};
-ghost use Rattle.lexing.specs.Places.{tokensAt};
+ghost use Rattle.tokeniser.specs.Places.{tokensAt};
 ghost use Rattle.sheet_lines.specs.Grammar.{yardLines};
 ghost use Rattle.sheet_lines.specs.Grammar;
 ghost use Rattle.sheet_lines.specs.Kept.{blankYards};

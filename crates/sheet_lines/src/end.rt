@@ -1,6 +1,6 @@
 // The last line of a sheet.
 ghost use mathlib.Core.Path.{_≡_};
-ghost use Rattle.lexing.specs.Places.{tokensAt};
+ghost use Rattle.tokeniser.specs.Places.{tokensAt};
 ghost use Rattle.lexing.specs.Results.{Follows};
 ghost use Rattle.sheet_lines.specs.Grammar.{endLine};
 ghost use Rattle.sheet_lines.specs.Alone.{mayFollow};

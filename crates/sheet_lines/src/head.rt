@@ -1,5 +1,5 @@
 // The first line of a sheet.
-ghost use Rattle.lexing.specs.Places.{tokensAt};
+ghost use Rattle.tokeniser.specs.Places.{tokensAt};
 ghost use Rattle.sheet_lines.specs.Grammar.{head};
 ghost use Rattle.sheet_lines.specs.Results.{ReadsHead};
 use crate::forms::BEFORE_AGENTS;

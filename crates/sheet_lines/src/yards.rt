@@ -3,7 +3,7 @@ ghost use Prim.Native.Nat.{_≤_};
 ghost use mathlib.Core.Path.{_≡_};
 ghost use mathlib.Core.Bool.{false, _&&_};
 ghost use Rattle.sheet.specs.Limits.{mostItems, markDigits};
-ghost use Rattle.lexing.specs.Places.{tokensAt};
+ghost use Rattle.tokeniser.specs.Places.{tokensAt};
 ghost use Rattle.lexing.specs.Results.{Follows};
 ghost use Rattle.sheet_lines.specs.Grammar.{marks, yardTurn, yardLine};
 ghost use Rattle.sheet_lines.specs.internal.Kept.{keptMarks};

@@ -1,16 +1,12 @@
 -- Sheet a of document 01, from its text to its printed text, by computation. Assumes nothing.
-use mathlib.Core.Path.{_≡_, refl}
+use mathlib.Core.Path.{_≡_}
 use mathlib.Core.List.{flatMap}
 use Rattle.sheet.specs.Answers.{accepted}
 use Rattle.sheet.specs.Tables.{profile}
 use Rattle.text.specs.Bytes.{bytes}
 use Rattle.text.specs.Decimal.{digitsIn, decimal, spacedNumbers}
-use Rattle.lexing.specs.Lines.{onFirst, lines, beforeRemark}
-use Rattle.lexing.specs.Tokens.{extended, words, lineTokens, tokens}
-use Rattle.lexing.specs.Forms as forms
-use Rattle.lexing.specs.Numbers as numbers
-use Rattle.sheet_lines.specs.Grammar as grammar
-use Rattle.reading.specs.Reading.{contentsOf, reading}
+use Rattle.reading.specs.SampleTexts.{sheetA}
+use Rattle.reading.proofs.SheetA.{sheet-a-read}
 use Rattle.maximin.specs.Share.{maximinShare, maximinPartition}
 use Rattle.matching.specs.Matching.{waitingSet, matching}
 use Rattle.margins.specs.Terms.{largestOdd, termsFor}
@@ -23,7 +19,7 @@ use Rattle.printing.specs.Printed.{headLine, pileGroup, amounts, cutGroup, yard
 use Rattle.printing.specs.Printing.{printing, longestPrinted}
 use Rattle.sheet_to_division.specs.ShareOut.{shareOut, standardAllowance}
 
-pub sheet-a : shareOut (bytes "(sheet (yards 2) (pieces 3))\n(yard 1 (marks 5 3 4))\n(yard 2 (marks 6 2 2))\n(end)\n") standardAllowance longestPrinted
+pub sheet-a : shareOut sheetA standardAllowance longestPrinted
     ≡ accepted (bytes "(division (yards 2) (pieces 3) (grade 3))\n(yard 1 (pile 1) (worth 5) (share 5) (cut (1) (2 3)))\n(yard 2 (pile 2 3) (worth 4) (share 4) (cut (1) (2 3)))\n(cutters 1)\n(end)\n")
-unfolding shareOut reading contentsOf grammar.endLine grammar.body grammar.yardLine grammar.yardTurn grammar.head numbers.numberAfter numbers.number numbers.digitsAfter numbers.isNumber forms.inTurn forms.follow onFirst lines beforeRemark extended words lineTokens tokens answer divisionOf sharingWithin growths sharing sharesCovered profile termsFor largestOdd round rounds held waitingSet matching maximinShare maximinPartition grade envyFree proportional maximinFair printing printed allLines headLine pileGroup amounts cutGroup yardLine cuttersLine digitsIn decimal spacedNumbers flatMap
-sheet-a = refl
+unfolding shareOut answer divisionOf sharingWithin growths sharing sharesCovered profile termsFor largestOdd round rounds held waitingSet matching maximinShare maximinPartition grade envyFree proportional maximinFair printing printed allLines headLine pileGroup amounts cutGroup yardLine cuttersLine digitsIn decimal spacedNumbers flatMap
+sheet-a = rw sheet-a-read

@@ -7,8 +7,8 @@ use Rattle.sheet.specs.Limits.{mostAgents, mostItems, CountsWithin}
 use Rattle.sheet.specs.Answers.{Answer, refused, accepted}
 use Rattle.sheet.proofs.Limits.{within-bounds}
 use Rattle.sheet.specs.declared.Sheet.{Sheet}
-use Rattle.lexing.specs.Tokens.{Token}
-use Rattle.lexing.specs.Places.{tokensAt}
+use Rattle.tokens.specs.Tokens.{Token}
+use Rattle.tokeniser.specs.Places.{tokensAt}
 use Rattle.reading.specs.Reading.{Contents, sheetOf, readingFront}
 use Rattle.reading.specs.Outcome.{outcome, tableIn, LeavesOff, ReadsFront}
 use Rattle.reading.specs.declared.Answer.the-variants.{Refused, Accepted}

@@ -9,7 +9,7 @@ use Rattle.lists.proofs.places.Padding.{take-padded}
 use Rattle.lists.proofs.members.Each.{Each}
 use Rattle.sheet.specs.Limits.{mostAgents, mostItems}
 use Rattle.sheet.specs.Sets.{itemsOf, setOf}
-use Rattle.lexing.specs.Tokens.{Token}
+use Rattle.tokens.specs.Tokens.{Token}
 use Rattle.division_reading.specs.Stated.{StatedLine, Stated}
 use Rattle.division_reading.specs.Grammar.{divisionText, divisionWithin}
 use Rattle.division_reading.specs.Outcome.{keptLine, blankLine, kept}

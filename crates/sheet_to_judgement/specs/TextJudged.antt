@@ -5,7 +5,7 @@ use mathlib.Core.Option.{some}
 use Prim.Native.Nat.{ℕ}
 use lib.IntN.{ℤ}
 use Rattle.sheet.specs.Answers.{Answer, accepted, andThen}
-use Rattle.lexing.specs.Tokens.{Token}
+use Rattle.tokens.specs.Tokens.{Token}
 use Rattle.reading.specs.Reading.{Contents, readingFront}
 use Rattle.writing.specs.Filled.{filling}
 use Rattle.grades.specs.Scale.{marginsByTable}

@@ -8,9 +8,9 @@ use lib.ListN.{length}
 use Rattle.text.specs.Bytes.{bytes}
 use Rattle.sheet.specs.Limits.{longestText}
 use Rattle.sheet.specs.Answers.{accepted}
-use Rattle.lexing.specs.Lines.{lineFeed}
-use Rattle.lexing.specs.Tokens.{tokens}
-use Rattle.lexing.proofs.texts.BehindLine.{tokens-behind-line}
+use Rattle.tokens.specs.Lines.{lineFeed}
+use Rattle.tokens.specs.Tokens.{tokens}
+use Rattle.tokens.proofs.texts.BehindLine.{tokens-behind-line}
 use Rattle.reading.specs.Reading.{Contents, reading, readingFront}
 use Rattle.reading.proofs.AtFront.{passes-front}
 use Rattle.strict_text.specs.StrictText.{headText, bodyText, sheetText, linesOf, strictText}

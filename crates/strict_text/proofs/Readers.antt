@@ -9,7 +9,7 @@ use borrow.Author.Tests.{eqb-true}
 use Rattle.lists.specs.Lists.{all}
 use Rattle.text.specs.Bytes.{bytes}
 use Rattle.text.specs.Decimal.{decimal}
-use Rattle.lexing.specs.Tokens.{Token}
+use Rattle.tokens.specs.Tokens.{Token}
 use Rattle.sheet.specs.Limits.{countDigits}
 use Rattle.lexing.specs.Forms.{_>>=_, same, form, follow, inTurn}
 use Rattle.lexing.specs.Numbers.{isNumber, digitsAfter, number, numberAfter, followNumber}
@@ -18,8 +18,8 @@ use Rattle.sheet_lines.specs.Grammar.{head, marks, yardTurn, yardLine, yardLine
 use Rattle.strict_text.proofs.SheetTokens.{headTokens, tokensInTurn, turnTokens, yardTokens, yardsTokens, bodyTokens}
 use Rattle.lexing.proofs.readers.Same.{same-true}
 use Rattle.lexing.proofs.readers.Tested.{passed}
-use Rattle.lexing.proofs.readers.Decimal.{decimal-of-value}
-use Rattle.lexing.proofs.texts.HaveBytes.{hasByte, tokens-have-bytes}
+use Rattle.numerals.proofs.DecimalDigits.{decimal-of-value}
+use Rattle.tokens.proofs.texts.HaveBytes.{hasByte, tokens-have-bytes}
 
 -- what two readers, one after the other, have read
 record Bound {A B : Type 0} (o : Option A) (f : A → Option B) (b : B) : Type 0 where

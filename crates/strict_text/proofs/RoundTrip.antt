@@ -14,7 +14,7 @@ use Rattle.lists.proofs.members.Each.{AllOfLength}
 use Rattle.sheet.specs.Limits.{mostAgents, mostItems, greatestMark, markDigits, markLimits, longestText, within}
 use Rattle.sheet.specs.Answers.{accepted}
 use Rattle.sheet.proofs.Limits.{within-bounds}
-use Rattle.lexing.specs.Tokens.{Token, tokens}
+use Rattle.tokens.specs.Tokens.{Token, tokens}
 use Rattle.lexing.specs.Forms.{form}
 use Rattle.lexing.proofs.readers.Written.{follow-append}
 use Rattle.sheet_lines.specs.SheetForms.{lastLine}

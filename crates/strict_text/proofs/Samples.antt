@@ -4,7 +4,7 @@ use Prim.Native.Nat.{_^_}
 use mathlib.Core.List.{[], _∷_, map}
 use Rattle.text.specs.Bytes.{bytes}
 use Rattle.text.specs.Decimal.{digitsIn, decimal, spacedNumbers}
-use Rattle.sheet_lines.specs.Kept.{tableOf}
+use Rattle.reading.specs.SampleTexts.{sheetA, contentsA}
 use Rattle.strict_text.specs.StrictText.{headText, yardText, yardTexts, bodyText, sheetText, strictText}
 
 decimal-samples : map decimal (0 ∷ 7 ∷ 10 ∷ 65535 ∷ 4294967295 ∷ 10 ^ 20 ∷ [])
@@ -13,7 +13,6 @@ unfolding decimal digitsIn
 decimal-samples = refl
 
 -- sheet a
-strictText-sheet-a : strictText (record { agents = 2; items = 3; table = tableOf ((5 ∷ 3 ∷ 4 ∷ []) ∷ (6 ∷ 2 ∷ 2 ∷ []) ∷ []) })
-    ≡ bytes "(sheet (yards 2) (pieces 3))\n(yard 1 (marks 5 3 4))\n(yard 2 (marks 6 2 2))\n(end)\n"
+strictText-sheet-a : strictText contentsA ≡ sheetA
 unfolding strictText sheetText bodyText headText yardTexts yardText spacedNumbers decimal digitsIn
 strictText-sheet-a = refl

@@ -5,9 +5,9 @@ use mathlib.Core.Bool.{true, false}
 use Prim.Native.Nat.{ℕ, _+_}
 use Rattle.text.specs.Bytes.{bytes}
 use Rattle.text.specs.Decimal.{decimal, spacedNumber}
-use Rattle.lexing.specs.Tokens.{opening, closing, tokens}
+use Rattle.tokens.specs.Tokens.{opening, closing, tokens}
 use Rattle.lexing.specs.Forms.{form}
-use Rattle.lexing.proofs.texts.Parts.{begunAfter, Lexes, lexed-tokens, _then_, nothing-lexed, space-lexed, bracketed-lexed}
+use Rattle.tokens.proofs.texts.Parts.{begunAfter, Lexes, lexed-tokens, _then_, nothing-lexed, space-lexed, bracketed-lexed}
 use Rattle.lexing.proofs.texts.Numbers.{number-lexed, numbers-lexed}
 use Rattle.sheet_lines.specs.SheetForms.{beforeTurn, beforeMarks, lineEnd, lastLine}
 use Rattle.sheet_lines.specs.Grammar.{Body}

@@ -2,7 +2,7 @@
 use mathlib.Core.List.{List, [], _∷_, _++_, map}
 use Prim.Native.Nat.{ℕ, _+_}
 use Rattle.text.specs.Decimal.{decimal}
-use Rattle.lexing.specs.Tokens.{Token}
+use Rattle.tokens.specs.Tokens.{Token}
 use Rattle.lexing.specs.Forms.{form}
 use Rattle.sheet_lines.specs.SheetForms.{beforeAgents, beforeItems, beforeTurn, beforeMarks, lineEnd, lastLine}
 use Rattle.sheet_lines.specs.Grammar.{Body}

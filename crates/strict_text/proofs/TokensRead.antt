@@ -8,7 +8,7 @@ use native.Mathlib.Omega.{arith}
 use lib.ListN.{length}
 use borrow.Author.Tests.{leb-true}
 use Rattle.text.specs.Decimal.{decimal}
-use Rattle.lexing.specs.Tokens.{Token}
+use Rattle.tokens.specs.Tokens.{Token}
 use Rattle.lists.specs.Lists.{all}
 use Rattle.lists.proofs.members.Each.{AllOfLength}
 use Rattle.lexing.specs.Forms.{form, inTurn}

@@ -6,9 +6,9 @@ use Prim.Native.Nat.{min}
 use native.Mathlib.Omega.{arith}
 use borrow.Author.Needs.{needs}
 use Rattle.sheet.specs.Limits.{mostItems}
-use Rattle.lexing.specs.Tokens.{tokens}
+use Rattle.tokens.specs.Tokens.{tokens}
 use Rattle.lexing.specs.Forms.{follow}
-use Rattle.lexing.specs.Places.{tokensAt}
+use Rattle.tokeniser.specs.Places.{tokensAt}
 use Rattle.bundle_reading.specs.Bundles.{risingItems, bundleAfter}
 use Rattle.bundle_reading.specs.Kept.{mapRead, keptBundle}
 use Rattle.bundle_reading.proofs.BundleKept.{bundle-kept}

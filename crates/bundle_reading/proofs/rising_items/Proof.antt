@@ -7,7 +7,7 @@ use native.Mathlib.Omega.{arith}
 use borrow.Author.Needs.{needs}
 use Rattle.sheet.specs.Limits.{countDigits}
 use Rattle.lexing.specs.Numbers.{number}
-use Rattle.lexing.specs.Places.{tokensAt}
+use Rattle.tokeniser.specs.Places.{tokensAt}
 use Rattle.bundle_reading.specs.Bundles.{risingItems}
 use Rattle.bundle_reading.specs.Kept.{mapRead, keptBundle}
 use Rattle.bundle_reading.specs.internal.Kept.{keptItemsAfter}

@@ -1,6 +1,6 @@
 -- `cut::cut_values` meets its contract: one bundle has one growth partition, and else the allowance is enough for all or not.
 -- Assumes nothing.
-use mathlib.Core.Path.{_≡_, sym, ap, _∙_}
+use mathlib.Core.Path.{sym, ap, _∙_}
 use Prim.Native.Nat.{_≤_, _<_}
 use native.Mathlib.Omega.{arith}
 use lib.ListN.{length}

@@ -3,7 +3,7 @@ use denote.Ref.{now}
 use Rattle.sheet.specs.Limits.{sumDigits}
 use Rattle.lexing.specs.Forms.{form}
 use Rattle.lexing.specs.Numbers.{numberAfter}
-use Rattle.lexing.specs.Places.{tokensAt}
+use Rattle.tokeniser.specs.Places.{tokensAt}
 use Rattle.lexing.specs.Results.{ReadsNumber}
 use Rattle.lexing.specs.declared.forms.Number.the-variants.{Value}
 use Rattle.division_numbers.specs.Forms.{beforeWorth, beforeShare}

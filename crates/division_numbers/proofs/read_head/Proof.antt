@@ -8,7 +8,7 @@ use borrow.Author.Needs.{needs}
 use Rattle.sheet.specs.Limits.{countDigits}
 use Rattle.lexing.specs.Forms.{form}
 use Rattle.lexing.specs.Numbers.{numberAfter, followNumber}
-use Rattle.lexing.specs.Places.{tokensAt}
+use Rattle.tokeniser.specs.Places.{tokensAt}
 use Rattle.sheet_lines.specs.SheetForms.{beforeItems}
 use Rattle.division_numbers.specs.Forms.{beforeCounts, beforeGrade}
 use Rattle.division_numbers.specs.Numbers.{gradeDigits, head}

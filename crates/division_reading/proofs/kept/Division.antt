@@ -12,7 +12,7 @@ use borrow.Author.Tests.{le-leb, lt-leb}
 use Rattle.lists.specs.Lists.{padded}
 use Rattle.lists.proofs.places.Padding.{sets-blank}
 use Rattle.sheet.specs.Limits.{mostAgents, mostItems}
-use Rattle.lexing.specs.Tokens.{Token}
+use Rattle.tokens.specs.Tokens.{Token}
 use Rattle.lexing.specs.Forms.{ended}
 use Rattle.sheet_lines.specs.Grammar.{endLine}
 use Rattle.division_reading.specs.Stated.{StatedLine, Stated}

@@ -5,7 +5,7 @@ use mathlib.Core.Option.{Option, none, some}
 use Prim.Native.Nat.{ℕ, _+_, _-_, _≤_, _<_}
 use native.Mathlib.Numerals.{add-one}
 use lib.ListN.{set}
-use Rattle.lexing.specs.Tokens.{Token}
+use Rattle.tokens.specs.Tokens.{Token}
 use Rattle.lexing.specs.Forms.{_>>=_, inTurn}
 use Rattle.lexing.proofs.readers.InTurn.{turn-missed, turn-read, turn-none-left}
 use Rattle.bundle_reading.specs.Kept.{mapRead}

@@ -10,7 +10,7 @@ use Rattle.lists.specs.Lists.{zeros}
 use Rattle.lists.proofs.places.Padding.{sets-blank}
 use Rattle.sheet.specs.Limits.{mostAgents}
 use Rattle.sheet.specs.Sets.{setOf}
-use Rattle.lexing.specs.Tokens.{Token}
+use Rattle.tokens.specs.Tokens.{Token}
 use Rattle.lexing.specs.Forms.{form, follow}
 use Rattle.lexing.proofs.readers.InTurn.{in-turn-length}
 use Rattle.sheet_lines.specs.SheetForms.{lineEnd}

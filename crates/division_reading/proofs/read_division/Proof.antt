@@ -7,7 +7,7 @@ use denote.Ref.{now}
 use borrow.Author.Needs.{needs}
 use borrow.Author.Tests.{not-true, not-false}
 use Rattle.sheet.specs.Limits.{mostAgents, mostItems}
-use Rattle.lexing.specs.Places.{tokensAt}
+use Rattle.tokeniser.specs.Places.{tokensAt}
 use Rattle.lexing.specs.Forms.{ended}
 use Rattle.sheet_lines.specs.Grammar.{endLine}
 use Rattle.division_reading.specs.Grammar.{head, yardLines}

@@ -6,7 +6,7 @@ use lib.Seq.{sets}
 use Rattle.sheet.specs.Limits.{mostAgents}
 use Rattle.sheet.specs.Sets.{setOf}
 use Rattle.lists.specs.Lists.{zeros}
-use Rattle.lexing.specs.Tokens.{Token}
+use Rattle.tokens.specs.Tokens.{Token}
 use Rattle.bundle_reading.specs.Kept.{mapRead}
 use Rattle.division_reading.specs.Stated.{StatedLine}
 use Rattle.division_reading.specs.Outcome.{keptLine, blankLines}

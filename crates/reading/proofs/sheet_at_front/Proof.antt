@@ -10,12 +10,12 @@ use lib.Dec.{leb, ltb}
 use lib.ListN.{length}
 use borrow.Author.Needs.{needs}
 use borrow.Author.Tests.{lt-leb, le-leb, lt-ltb, not-true, not-false}
-use Rattle.sheet.specs.Limits.{longestText, mostAgents, mostItems, greatestMark, markDigits, within}
+use Rattle.sheet.specs.Limits.{longestText, mostAgents, mostItems, markDigits, within}
 use Rattle.sheet.specs.Answers
 use Rattle.sheet.proofs.Limits.{within-bounds}
-use Rattle.lexing.specs.Tokens.{tokens}
-use Rattle.lexing.specs.Places.{tokensAt, start}
-use Rattle.lexing.proofs.texts.Places.{tokens-start}
+use Rattle.tokens.specs.Tokens.{tokens}
+use Rattle.tokeniser.specs.Places.{tokensAt, start}
+use Rattle.tokeniser.proofs.Places.{tokens-start}
 use Rattle.lexing.specs.Results.{Follows}
 use Rattle.lexing.specs.declared.forms.Followed.the-variants.{At}
 use Rattle.sheet_lines.specs.Grammar.{head, body, endLine}

@@ -9,7 +9,7 @@ use native.Mathlib.Omega.{arith}
 use lib.ListN.{set}
 use lib.Seq.{sets}
 use Rattle.lists.specs.Lists.{all}
-use Rattle.lexing.specs.Tokens.{Token}
+use Rattle.tokens.specs.Tokens.{Token}
 use Rattle.lexing.specs.Forms.{_>>=_, inTurn}
 use Rattle.lexing.proofs.readers.InTurn.{turn-missed, turn-read, turn-none-left}
 use Rattle.sheet_lines.specs.internal.Kept.{keptAfter}

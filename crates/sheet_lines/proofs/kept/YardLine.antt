@@ -6,7 +6,7 @@ use mathlib.Core.Bool.{Bool, true, _&&_}
 use Prim.Native.Nat.{ℕ, _+_, _-_, _<_}
 use lib.ListN.{set}
 use Rattle.sheet.specs.Limits.{greatestMark, markDigits, blankRow}
-use Rattle.lexing.specs.Tokens.{Token}
+use Rattle.tokens.specs.Tokens.{Token}
 use Rattle.lexing.specs.Forms.{_>>=_, form, follow, inTurn}
 use Rattle.sheet_lines.specs.SheetForms.{lineEnd}
 use Rattle.sheet_lines.specs.Grammar.{marks, yardTurn, yardLine}

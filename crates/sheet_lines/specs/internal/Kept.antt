@@ -7,7 +7,7 @@ use Prim.Native.Nat.{ℕ}
 use lib.Seq.{sets}
 use Rattle.lists.specs.Lists.{all}
 use Rattle.sheet.specs.Limits.{greatestMark, blankRow}
-use Rattle.lexing.specs.Tokens.{Token}
+use Rattle.tokens.specs.Tokens.{Token}
 use Rattle.sheet_lines.specs.Marks.{allowed, allowedRow}
 use Rattle.sheet_lines.specs.Kept.{yard, blankYards, reduced}
 use Rattle.sheet_lines.specs.declared.yards.Yard.{Yard}

@@ -5,8 +5,8 @@ use mathlib.Core.List.{List}
 use mathlib.Core.Option.{Option, none, some}
 use mathlib.Core.Bool.{Bool, true, false}
 use Prim.Native.Nat.{ℕ}
-use Rattle.lexing.specs.Tokens.{Token}
-use Rattle.lexing.specs.Places.{tokensAt}
+use Rattle.tokens.specs.Tokens.{Token}
+use Rattle.tokeniser.specs.Places.{tokensAt}
 use Rattle.sheet_lines.specs.Results.{unreadBody}
 use Rattle.sheet_lines.specs.declared.yards.Yard.{Yard}
 use Rattle.sheet_lines.specs.declared.yards.Line.{Line}

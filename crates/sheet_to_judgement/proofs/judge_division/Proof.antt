@@ -5,7 +5,7 @@ use Prim.Native.Nat.{ℕ}
 use lib.ListN.{length}
 use Rattle.sheet.specs.Answers.{refused, after}
 use Rattle.sheet.specs.declared.Sheet.{Sheet}
-use Rattle.lexing.specs.Places.{tokensAt}
+use Rattle.tokeniser.specs.Places.{tokensAt}
 use Rattle.tokeniser.specs.declared.Cursor.{Cursor}
 use Rattle.reading.specs.Reading.{readingFront}
 use Rattle.writing.specs.Filled.{filled}

@@ -8,7 +8,7 @@ use lib.ListN.{length, length-set}
 use Rattle.sheet.specs.Limits.{mostAgents, mostItems}
 use Rattle.sheet.specs.Sets.{setOf}
 use Rattle.lexing.specs.Forms.{form, inTurn}
-use Rattle.lexing.specs.Places.{tokensAt}
+use Rattle.tokeniser.specs.Places.{tokensAt}
 use Rattle.division_reading.specs.DivisionForms.{beforeCutPile}
 use Rattle.division_reading.specs.Grammar.{bundleAfter, cutBundles}
 use Rattle.division_reading.specs.internal.Kept.{keptAfter, keptCut}

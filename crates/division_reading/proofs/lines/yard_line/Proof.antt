@@ -7,7 +7,7 @@ use Prim.Native.Nat.{ℕ}
 use denote.Ref.{now}
 use borrow.Author.Needs.{needs}
 use borrow.Author.Tests.{not-true, not-false}
-use Rattle.lexing.specs.Places.{tokensAt}
+use Rattle.tokeniser.specs.Places.{tokensAt}
 use Rattle.division_reading.specs.Grammar.{bundleInTurn, amounts, cutBundles}
 use Rattle.bundle_reading.specs.Kept.{keptBundle}
 use Rattle.division_reading.specs.internal.Kept.{keptCut}

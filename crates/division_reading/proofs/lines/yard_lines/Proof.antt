@@ -7,7 +7,7 @@ use borrow.Author.Tests.{not-true, not-false}
 use lib.ListN.{length, length-set}
 use Rattle.sheet.specs.Limits.{mostAgents}
 use Rattle.lexing.specs.Forms.{inTurn}
-use Rattle.lexing.specs.Places.{tokensAt}
+use Rattle.tokeniser.specs.Places.{tokensAt}
 use Rattle.division_reading.specs.Grammar.{yardLine, yardLines}
 use Rattle.division_reading.specs.Outcome.{keptLine}
 use Rattle.division_reading.specs.internal.Kept.{keptAfter, keptLines}

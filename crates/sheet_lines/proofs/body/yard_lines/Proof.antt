@@ -7,7 +7,7 @@ use borrow.Author.Tests.{not-true, not-false}
 use lib.ListN.{length, length-set}
 use Rattle.sheet.specs.Limits.{mostAgents, markDigits}
 use Rattle.lexing.specs.Forms.{inTurn}
-use Rattle.lexing.specs.Places.{tokensAt}
+use Rattle.tokeniser.specs.Places.{tokensAt}
 use Rattle.sheet_lines.specs.Grammar.{yardLine, yardLines}
 use Rattle.sheet_lines.specs.internal.Kept.{keptLinesAfter, keptLines}
 use Rattle.sheet_lines.proofs.kept.InTurn.{kept-all}

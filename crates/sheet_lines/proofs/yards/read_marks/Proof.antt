@@ -8,7 +8,7 @@ use lib.ListN.{length, length-set}
 use Rattle.sheet.specs.Limits.{mostItems, markDigits}
 use Rattle.lexing.specs.Forms.{inTurn}
 use Rattle.lexing.specs.Numbers.{number}
-use Rattle.lexing.specs.Places.{tokensAt}
+use Rattle.tokeniser.specs.Places.{tokensAt}
 use Rattle.sheet_lines.specs.Grammar.{marks}
 use Rattle.sheet_lines.specs.internal.Kept.{keptMarksAfter}
 use Rattle.sheet_lines.proofs.kept.InTurn.{kept-read, kept-missed, kept-all}

@@ -5,7 +5,7 @@ use mathlib.Core.Bool.{true}
 use denote.Ref.{now}
 use borrow.Author.Tests.{not-true, not-false}
 use Rattle.sheet.specs.Limits.{markDigits}
-use Rattle.lexing.specs.Places.{tokensAt}
+use Rattle.tokeniser.specs.Places.{tokensAt}
 use Rattle.lexing.specs.Results.{Follows}
 use Rattle.lexing.specs.declared.forms.Followed.the-variants.{At}
 use Rattle.sheet_lines.specs.Grammar.{marks, yardTurn, yardLine}

@@ -1,0 +1,19 @@
+-- The texts of sample sheet a of document 01 that theorems read, and what they carry. Assumes nothing: these are definitions.
+use mathlib.Core.List.{List, [], _∷_}
+use Prim.Native.Nat.{ℕ}
+use Rattle.text.specs.Bytes.{bytes}
+use Rattle.sheet_lines.specs.Kept.{tableOf}
+use Rattle.reading.specs.Reading.{Contents}
+
+-- sheet a in the strict layout (samples/a.sheet)
+abbrev pub sheetA : List ℕ
+sheetA = bytes "(sheet (yards 2) (pieces 3))\n(yard 1 (marks 5 3 4))\n(yard 2 (marks 6 2 2))\n(end)\n"
+
+-- sheet a as a yard would type it (samples/typed.sheet)
+abbrev pub typedSheetA : List ℕ
+typedSheetA =
+    bytes "; Felling at the mill pond: two yards, three pieces.\n\n( sheet (yards 2)(pieces 3) )\n\n   ;        oak  ash  elm\n( yard 1 (marks 5    3    4 ) )   ; Holm's yard\n( yard 2 (marks 6    2    2 ) )   ; Brook yard, marked in the rain\n(end)\n"
+
+-- what both carry
+abbrev pub contentsA : Contents
+contentsA = record { agents = 2; items = 3; table = tableOf ((5 ∷ 3 ∷ 4 ∷ []) ∷ (6 ∷ 2 ∷ 2 ∷ []) ∷ []) }
