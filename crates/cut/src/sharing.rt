@@ -1,12 +1,12 @@
 // Two figures that the maximin share lies between.
 ghost use mathlib.Core.Path.{_≡_};
-ghost use Prim.Native.Nat.{_≤_, _/_};
+ghost use Prim.Native.Nat.{_≤_, _<_, _/_};
 ghost use lib.ListN.{length};
 ghost use Rattle.lists.specs.Sums.{total};
 ghost use Rattle.sheet.specs.Limits.{mostAgents, mostItems, greatestSum};
 ghost use Rattle.maximin.specs.Share.{maximinShare};
+use reach::loads::Loads;
 use reach::loads::least;
-use reach::loads::lightest;
 use reach::pruning::supplied;
 use sheet::Sheet;
 
@@ -16,6 +16,22 @@ pub(crate) fn mean(values: &[u64], bundles: usize) -> u64
     ensures { λ r. ⌜ r ≡ total (now (values .entry)) / bundles ⌝ }
 {
     supplied(values, Sheet::GREATEST_SUM) / bundles as u64
+}
+
+// One of the least of the first `bundles` loads. Only that it is one of them is relied on.
+fn lightest(loads: &Loads, bundles: usize) -> usize
+    requires { ⌜ (1 ≤ bundles) × (bundles ≤ mostAgents) ⌝ }
+    ensures { λ r. ⌜ r < bundles ⌝ }
+{
+    let mut light: usize = 0;
+    let mut i: usize = 1;
+    while i < bundles {
+        if loads[i] < loads[light] {
+            light = i;
+        }
+        i += 1;
+    }
+    light
 }
 
 // The least bundle once each value in turn is put on one of the lightest bundles: a quick figure that the share reaches.

@@ -1,6 +1,5 @@
 // The loads of the bundles (piles): the values that lie on each.
 ghost use mathlib.Core.Path.{_≡_};
-ghost use Prim.Native.Nat.{_<_};
 ghost use Rattle.lists.specs.Sums.{leastOf};
 ghost use Rattle.reach.specs.Loads.{loadOf, inUse};
 use sheet::Sheet;
@@ -23,20 +22,4 @@ pub fn least(loads: &Loads, bundles: usize) -> u64
         i += 1;
     }
     low
-}
-
-// One of the least of the first `bundles` loads, whose number is cut to the limits of a cut. Only that it is one of them is relied on.
-pub fn lightest(loads: &Loads, bundles: usize) -> usize
-    ensures { λ r. ⌜ r < inUse bundles ⌝ }
-{
-    let last = lesser(bundles, Sheet::AGENTS);
-    let mut light: usize = 0;
-    let mut i: usize = 1;
-    while i < last {
-        if loads[i] < loads[light] {
-            light = i;
-        }
-        i += 1;
-    }
-    light
 }

@@ -19,7 +19,7 @@ loop-holds : tie.Need-loop-holds Inv-loop μ-loop
 loop-holds c = let a = c .before .args in dealt-start (a .bundles) (a .values .now)
 
 lightest-requires : tie.Need-lightest-requires Inv-loop μ-loop
-lightest-requires c κs = tt
+lightest-requires c κs = omega arith
 
 mul-loads : tie.Need-mul-loads Inv-loop μ-loop
 mul-loads c = omega arith
@@ -38,7 +38,7 @@ add-loads c =
     let l = c .before .before .before .before .loop in
     let s = c .before .before .before .before .before .before in
     let light = c .before .lightest in
-    omega (arith, heavier-le (s .args .bundles) (s .args .values .now) (l .loads) (l .i) (l .inv) (light .result) (omega (arith, light .ensures, s .pre .1, s .pre .2)) (s .pre .2) (omega arith), s .pre .0)
+    omega (arith, heavier-le (s .args .bundles) (s .args .values .now) (l .loads) (l .i) (l .inv) (light .result) (light .ensures) (s .pre .2) (omega arith), s .pre .0)
 
 mul-loads-3 : tie.Need-mul-loads-3 Inv-loop μ-loop
 mul-loads-3 c = omega arith
@@ -57,7 +57,7 @@ loop-again c =
     let l = c .before .before .before .before .loop in
     let s = c .before .before .before .before .before .before in
     let light = c .before .lightest in
-    dealt-next (s .args .bundles) (s .args .values .now) (l .loads) (l .i) (l .inv) (light .result) (omega (arith, light .ensures, s .pre .1, s .pre .2)) (s .pre .2) (omega arith)
+    dealt-next (s .args .bundles) (s .args .values .now) (l .loads) (l .i) (l .inv) (light .result) (light .ensures) (s .pre .2) (omega arith)
 
 least-requires : tie.Need-least-requires Inv-loop μ-loop
 least-requires c κs = tt

@@ -1,18 +1,15 @@
--- `loads::lightest` meets its contract. The loop's invariant: `light` is one of the bundles passed. Assumes nothing.
+-- `sharing::lightest` meets its contract. The loop's invariant: `light` is one of the bundles passed. Assumes nothing.
 use mathlib.Core.Logic.{⊎-elim}
-use Prim.Native.Nat.{_-_, _≤_, _<_, max}
+use Prim.Native.Nat.{_-_, _≤_, _<_}
 use native.Mathlib.Omega.{arith}
-use Rattle.reach.proofs.loads.lightest.Statement.{statement}
-use Rattle.reach.proofs.loads.lightest.Tie as tie
+use Rattle.cut.proofs.sharing.lightest.Statement.{statement}
+use Rattle.cut.proofs.sharing.lightest.Tie as tie
 
 abbrev Inv-loop : tie.InvT-loop
-Inv-loop loads bundles last light₀ i₀ light i = (i ≤ max 1 last) × (light < i)
+Inv-loop loads bundles light₀ i₀ light i = (i ≤ bundles) × (light < i)
 
 abbrev μ-loop : tie.MeasureT-loop
-μ-loop loads bundles last light₀ i₀ light i = last - i
-
-lesser-requires : tie.Need-lesser-requires Inv-loop μ-loop
-lesser-requires c κs = tt
+μ-loop loads bundles light₀ i₀ light i = bundles - i
 
 loop-holds : tie.Need-loop-holds Inv-loop μ-loop
 loop-holds c = omega arith
@@ -47,7 +44,6 @@ lightest-spec =
     (tie.spec
     Inv-loop
     μ-loop
-    lesser-requires
     loop-holds
     mul-if1
     element-copy-out-if1
