@@ -1,5 +1,6 @@
-//! The sample sheets of document 01, two that are even, the three players of document 000, sheets as yards
-//! type them, and the texts of sample j, read from the folder `samples`.
+//! The sample sheets of document 01, two that are even, one where two thirds for every number of yards goes
+//! astray, the three players of document 000, sheets as yards type them, and the texts of sample j, read from
+//! the folder `samples`.
 
 macro_rules! sample {
     ($name:literal) => {
@@ -11,7 +12,7 @@ pub const SHEET_A: &str = sample!("a");
 
 /// Name, text, and the figures where they are given: shares, piles, cutters, grade. Those of a to i are
 /// the document's, with the grades of order 2, and the shares of the three players are order 3's.
-pub const SHEETS: [(&str, &str, &str); 12] = [
+pub const SHEETS: [(&str, &str, &str); 13] = [
     ("a", SHEET_A, "[5, 4] [[1], [2, 3]] [1] 3"),
     ("b", sample!("b"), "[1, 6, 2] [[3], [1, 2], [4]] [1, 2] 3"),
     ("c", sample!("c"), "[1, 4, 1] [[1, 2], [3], [4]] [1] 4"),
@@ -27,6 +28,7 @@ pub const SHEETS: [(&str, &str, &str); 12] = [
         sample!("even_rounds"),
         "[9, 7, 9, 6] [[3], [1, 2], [5, 6], [4]] [1, 2] 2",
     ),
+    ("c with yard 2 at 9 9 6 3", sample!("two_thirds"), "[1, 9, 1] [[3], [1, 2], [4]] [1, 2] 3"),
     (
         "three players",
         sample!("three_players"),
