@@ -9,6 +9,7 @@ pub mod Respaced
 pub mod Accepted
 pub mod Refusals
 pub mod AtFront
+pub mod LongTexts
 pub mod SmallMarks
 pub mod WiderMarks
 pub mod SheetA
