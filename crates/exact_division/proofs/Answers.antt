@@ -6,9 +6,9 @@ use mathlib.Core.Logic.{_⊎_, inl, inr, ⊎-elim}
 use mathlib.Core.List.{List}
 use Prim.Native.Nat.{ℕ, _≤_}
 use Rattle.sheet.specs.Limits.{CountsWithin}
-use Rattle.sheet.specs.Answers.{refused, accepted}
+use Rattle.sheet.specs.Answers.{NeverRefused, refused, accepted}
 use Rattle.sheet.proofs.Accepted.{refused-not-accepted}
-use Rattle.sheet.proofs.Refusals.{NeverRefused, never-accepted, never-andThen}
+use Rattle.sheet.proofs.Refusals.{never-accepted, never-andThen}
 use Rattle.shares.specs.Shares.{sharing}
 use Rattle.shares.proofs.Refusals.{sharing-within, sharing-cases, sharing-refusals}
 use Rattle.exact_division.specs.Exact.{exactExists}

@@ -7,7 +7,8 @@ use lib.Dec.{leb, ltb}
 use lib.ListN.{length}
 use Rattle.lists.specs.Lists.{all}
 use Rattle.sheet.specs.Limits.{MarkLimits, mostAgents, mostItems, markLimits, longestText, within}
-use Rattle.sheet.proofs.Refusals.{NeverRefused, never-accepted, never-require, never-requireSome, never-andThen}
+use Rattle.sheet.specs.Answers.{NeverRefused}
+use Rattle.sheet.proofs.Refusals.{never-accepted, never-require, never-requireSome, never-andThen}
 use Rattle.tokens.specs.Tokens.{Token, tokens}
 use Rattle.lexing.specs.Forms.{ended}
 use Rattle.sheet_lines.specs.Grammar.{head, Body, body, anything, endLine}

@@ -10,10 +10,10 @@ use borrow.Author.Tests.{le-leb}
 use Rattle.lists.specs.Sums.{total}
 use Rattle.lists.proofs.members.Counting.{mem-all}
 use Rattle.sheet.specs.Limits.{mostAgents, mostItems, within, CountsWithin}
-use Rattle.sheet.specs.Answers.{refused, accepted, require}
+use Rattle.sheet.specs.Answers.{NeverRefused, refused, accepted, require}
 use Rattle.sheet.specs.Tables.{profile}
 use Rattle.sheet.proofs.Limits.{within-bounds, within-both}
-use Rattle.sheet.proofs.Refusals.{NeverRefused, never-accepted, never-require}
+use Rattle.sheet.proofs.Refusals.{never-accepted, never-require}
 use Rattle.maximin.specs.Share.{maximinShare}
 use Rattle.cut.specs.Outcome.{cuttingOf}
 use Rattle.maximin.proofs.Laws.{shares-le-total}

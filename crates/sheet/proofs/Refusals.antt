@@ -4,11 +4,7 @@ use mathlib.Core.Bool.{Bool, true, false}
 use mathlib.Core.Option.{Option, none, some}
 use Prim.Native.Nat.{ℕ}
 use native.Mathlib.Omega.{arith}
-use Rattle.sheet.specs.Answers.{Answer, refused, accepted, require, andThen, requireSome}
-
--- the answer is no refusal with the number k
-pub record NeverRefused {A : Type 0} (k : ℕ) (answer : Answer A) : Type 0 where
-  pub never : answer ≡ refused k → ⊥
+use Rattle.sheet.specs.Answers.{Answer, refused, accepted, NeverRefused, require, andThen, requireSome}
 
 module _ {B : Type 0} (k : ℕ) where
   pub never-accepted : (b : B) → NeverRefused k (accepted b)

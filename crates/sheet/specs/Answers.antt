@@ -1,5 +1,6 @@
 -- What an entry answers: the number of a reason to turn its input down, or a result (document 01, "Reasons to turn a sheet down, in
 -- checking order"). Assumes nothing: these are definitions.
+use mathlib.Core.Path.{_≡_}
 use mathlib.Core.Bool.{Bool, cond}
 use mathlib.Core.Option.{Option, none, some}
 use Prim.Native.Nat.{ℕ}
@@ -8,6 +9,10 @@ use Prim.Native.Nat.{ℕ}
 pub data Answer (A : Type 0) : Type 0 where
   refused : (number : ℕ) → Answer A
   accepted : (result : A) → Answer A
+
+-- the answer is no refusal with the number k
+pub record NeverRefused {A : Type 0} (k : ℕ) (answer : Answer A) : Type 0 where
+  pub never : answer ≡ refused k → ⊥
 
 module _ {A : Type 0} where
   -- refusal n where the test fails, else what follows: "Each is looked for over the whole input before the following one"

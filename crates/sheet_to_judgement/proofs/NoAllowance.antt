@@ -5,8 +5,8 @@ use Prim.Native.Nat.{ℕ}
 use native.Mathlib.Omega.{arith}
 use lib.Dec.{leb}
 use lib.ListN.{length}
-use Rattle.sheet.specs.Answers.{refused}
-use Rattle.sheet.proofs.Refusals.{NeverRefused, never-accepted, never-require, never-andThen}
+use Rattle.sheet.specs.Answers.{NeverRefused, refused}
+use Rattle.sheet.proofs.Refusals.{never-accepted, never-require, never-andThen}
 use Rattle.reading.specs.Reading.{readingFront}
 use Rattle.reading.proofs.Refusals.{readingFront-refusals}
 use Rattle.division_reading.specs.Grammar.{divisionText}

@@ -6,8 +6,8 @@ use mathlib.Core.Option.{Option}
 use Prim.Native.Nat.{ℕ, _≤_}
 use native.Mathlib.Omega.{arith}
 use Rattle.sheet.specs.Limits.{CountsWithin}
-use Rattle.sheet.specs.Answers.{refused, accepted}
-use Rattle.sheet.proofs.Refusals.{NeverRefused, never-accepted, never-require, never-requireSome, never-andThen}
+use Rattle.sheet.specs.Answers.{NeverRefused, refused, accepted}
+use Rattle.sheet.proofs.Refusals.{never-accepted, never-require, never-requireSome, never-andThen}
 use Rattle.shares.specs.Shares.{sharing}
 use Rattle.shares.proofs.Refusals.{sharing-within, sharing-refusals}
 use Rattle.grades.specs.Scale.{marginsByTable}
