@@ -85,7 +85,8 @@ fn walk(
         if is_wasted(found, load, bundle, used) {
             found = pass(counts, rest.len(), opened, found);
         } else {
-            loaded[bundle] = load + value;
+            let heavier = load + value;
+            loaded[bundle] = heavier;
             longer[at] = bundle as u8 + 1;
             found = walk(
                 rest,

@@ -210,8 +210,8 @@ module _ (t : ℕ) where
   pass-requires-2 : lts.Need-pass-requires-2 (claims t) (walk-at t) walk.Post Inv-loop μ-loop
   pass-requires-2 c κs = tt
 
-  add-loaded : lts.Need-add-loaded (claims t) (walk-at t) walk.Post Inv-loop μ-loop
-  add-loaded c =
+  add-heavier : lts.Need-add-heavier (claims t) (walk-at t) walk.Post Inv-loop μ-loop
+  add-heavier c =
       let l = c .before .before .before .before in
       omega (arith, start l .pre .1 .0 .sums-bounded (l .loop .bundle), ap total (values-are l), ap (λ loads. getD loads (l .loop .bundle) 0) (l .loop .inv .1))
 
@@ -335,7 +335,7 @@ pub +walk-spec : {M : Type 1} → statement M
     (array-read-load t)
     (is-wasted-requires t)
     (pass-requires-2 t)
-    (add-loaded t)
+    (add-heavier t)
     (mul-loaded t)
     (array-write-loaded t)
     (cast-longer t)
