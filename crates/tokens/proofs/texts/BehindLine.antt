@@ -1,10 +1,11 @@
 -- The tokens of a text that ends in a line feed stand before those of the text behind it, whatever that is. Assumes nothing.
 use mathlib.Core.Path.{_≡_, refl, sym, ap, _∙_}
-use mathlib.Core.List.{List, [], _∷_, _++_, map, flatMap, map-append, append-assoc, append-nil}
+use mathlib.Core.List.{List, [], _∷_, _++_, map, flatMap, map-append, append-nil}
 use mathlib.Core.Bool.{Bool, true, false, not}
 use Prim.Native.Nat.{ℕ}
 use lib.Dec.{eqb}
 use Rattle.lists.proofs.members.Counting.{filter-append}
+use Rattle.lists.proofs.members.FlatMap.{flatMap-append}
 use Rattle.tokens.specs.Lines.{lineFeed, Line, onFirst, lines, withoutRemark, isBlank, withoutBlankLines}
 use Rattle.tokens.specs.Tokens.{Token, lineTokens, tokens}
 
@@ -34,16 +35,11 @@ lines-to (b ∷ s) = lines-after-byte b s (eqb b lineFeed) refl (lines-to s)
 abbrev tokensOf : List Line → List Token
 tokensOf ls = flatMap lineTokens (withoutBlankLines (map withoutRemark ls))
 
-flatMap-append : (ls ms : List Line) → flatMap lineTokens (ls ++ ms) ≡ flatMap lineTokens ls ++ flatMap lineTokens ms
-unfolding flatMap
-flatMap-append [] ms = refl
-flatMap-append (l ∷ ls) ms = ap (λ ts. lineTokens l ++ ts) (flatMap-append ls ms) ∙ sym (append-assoc (lineTokens l) (flatMap lineTokens ls) (flatMap lineTokens ms))
-
 tokensOf-append : (ls ms : List Line) → tokensOf (ls ++ ms) ≡ tokensOf ls ++ tokensOf ms
 tokensOf-append ls ms =
     ap (λ xs. flatMap lineTokens (withoutBlankLines xs)) (map-append withoutRemark ls ms)
     ∙ ap (flatMap lineTokens) (filter-append (λ l. not (isBlank l)) (map withoutRemark ls) (map withoutRemark ms))
-    ∙ flatMap-append (withoutBlankLines (map withoutRemark ls)) (withoutBlankLines (map withoutRemark ms))
+    ∙ flatMap-append lineTokens (withoutBlankLines (map withoutRemark ls)) (withoutBlankLines (map withoutRemark ms))
 
 pub tokens-behind-line : (s t : List ℕ) → tokens (s ++ lineFeed ∷ t) ≡ tokens (s ++ lineFeed ∷ []) ++ tokens t
 unfolding tokens lines
