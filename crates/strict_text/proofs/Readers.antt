@@ -19,7 +19,8 @@ use Rattle.strict_text.proofs.SheetTokens.{headTokens, tokensInTurn, tu
 use Rattle.lexing.proofs.readers.Same.{same-true}
 use Rattle.lexing.proofs.readers.Tested.{passed}
 use Rattle.numerals.proofs.DecimalDigits.{decimal-of-value}
-use Rattle.tokens.proofs.texts.HaveBytes.{hasByte, tokens-have-bytes}
+use Rattle.tokens.specs.Tokenised.{hasByte}
+use Rattle.tokens.proofs.texts.TextTokens.{tokens-have-bytes}
 
 -- what two readers, one after the other, have read
 record Bound {A B : Type 0} (o : Option A) (f : A → Option B) (b : B) : Type 0 where

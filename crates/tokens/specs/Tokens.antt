@@ -1,5 +1,7 @@
--- How a text becomes tokens (document 01, "The sheet", and document 02, order 1): a token is a bracket, a word, which is the longest run
--- of other bytes without a space, or the line feed that ends a line. Assumes nothing: these are definitions.
+-- How a text becomes tokens (document 01, "The sheet", and document 02, order 1): a token is a bracket, a word, which is a run of other
+-- bytes without a space that is as long as it can be, or the line feed that ends a line that is not blank. That `words` gives just these
+-- tokens of a line is proved in proofs/texts/Tokenised.antt, and what holds of them in proofs/texts/LineTokens.antt: none is empty or
+-- holds a space, a bracket stands alone, joined they are the line without its spaces. Assumes nothing: these are definitions.
 use Prim.Native.Nat.{ℕ}
 use mathlib.Core.List.{List, [], _∷_, _++_, flatMap}
 use mathlib.Core.Bool.{Bool, true, false, not, cond, _||_}
@@ -35,7 +37,8 @@ extended b [] = (b ∷ []) ∷ []
 extended b (t ∷ ts) = (b ∷ t) ∷ ts
 
 -- the tokens of a line's bytes, from the last to the first: a space is none, a bracket is one, and so is the last byte of a word; any
--- other byte stands at the front of the word that goes on behind it
+-- other byte stands at the front of the word that goes on behind it. The lines meant have no remark and so no semicolon, and no line feed
+-- within them; read from the first byte on, their tokens are those of Tokenised.antt
 unfoldable pub words : List ℕ → List Token
 words [] = []
 words (b ∷ bs) =

@@ -21,7 +21,7 @@ begunAfter begun (b ∷ bs) = begunAfter (cond (eqb b space) begun (not (eqb b l
 abbrev pub noRemark : List ℕ → Bool
 noRemark x = all (λ b. not (eqb b semicolon)) x
 
-goesOn-append : (x y : List ℕ) → goesOn y ≡ false → goesOn (x ++ y) ≡ goesOn x
+pub goesOn-append : (x y : List ℕ) → goesOn y ≡ false → goesOn (x ++ y) ≡ goesOn x
 goesOn-append [] y g = g
 goesOn-append (b ∷ x) y g = refl
 
