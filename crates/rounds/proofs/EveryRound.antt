@@ -11,22 +11,32 @@ use Rattle.lists.proofs.ranges.Ranges.{length-range}
 use Rattle.lists.proofs.places.Passing.{empty}
 use Rattle.lists.proofs.dictionary.Dictionary.{range-rising, pairwise-sublist}
 use Rattle.sheet.specs.Valuations.{itemValue}
-use Rattle.sheet.specs.Tables.{valuation}
-use Rattle.maximin.specs.Share.{leastBundle, maximinShare}
-use Rattle.maximin.proofs.Laws.{leastBundle-le-maximinShare, leastBundle-maximinPartition, maximinPartition-precedes}
+use Rattle.sheet.specs.Tables.{valuation, profile}
+use Rattle.maximin.specs.Share.{maximinShare, maximinPartition}
+use Rattle.maximin.proofs.Laws.{leastBundle-le-maximinShare, maximinPartition-within, leastBundle-maximinPartition, maximinPartition-precedes}
 use Rattle.matching.specs.Matching.{cutterOf, chosenOf}
 use Rattle.matching.proofs.Cutter.{cutterOf-mem, cutterOf-lowest}
 use Rattle.matching.proofs.Serving.{waitingOf-largest, cutterOf-served}
 use Rattle.matching.proofs.Ties.{waitingOf-first, chosenOf-first}
-use Rattle.margins.specs.Terms.{termsFor}
+use Rattle.margins.specs.declared.Terms.{Terms}
 use Rattle.rounds.specs.Round.{Instance, cutOf, Round, round, rounds}
-use Rattle.rounds.specs.Documented.{RoundAsDocumented, FollowOn}
-use Rattle.rounds.specs.Division.{standardInstance, allRounds}
-use Rattle.rounds.proofs.density.Terms.{termsFor-allowed}
+use Rattle.rounds.specs.Documented.{ShareAndCut, RoundAsDocumented, FollowOn}
+use Rattle.rounds.specs.Division.{instanceOf, allRounds}
+use Rattle.rounds.proofs.density.Terms.{Allowed}
 use Rattle.rounds.proofs.round.Parts.{cutSuits, round-begins, waiting-falls}
-use Rattle.rounds.proofs.round.Invariant.{Sound, Left, left-all, cut-within, matched}
+use Rattle.rounds.proofs.round.Invariant.{Sound, Left, left-all, matched}
 use Rattle.rounds.proofs.round.Rounds.{rounds-each}
 use Rattle.rounds.proofs.Allocation.{sound}
+
+-- the sentences of "Share and cut" hold of the maximin share and the cut that shows it
+pub share-and-cut-as-documented : (n : ℕ) (values : List ℕ) → 1 ≤ n → ShareAndCut n values (maximinShare n values) (maximinPartition n values)
+share-and-cut-as-documented n values some =
+    record {
+      share-greatest = λ l p. leastBundle-le-maximinShare n values l (p .0) (p .1);
+      cut-partition = maximinPartition-within n values some;
+      cut-reaches = leastBundle-maximinPartition n values some;
+      cut-first = λ l p. maximinPartition-precedes n values some l (p .0) (p .1);
+    }
 
 module _ {N M : ℕ} {G : Instance} {agents items : List ℕ} (sound : Sound N M G) (some : 1 ≤ length agents) (state : Left N M G agents items) where
   abbrev n : ℕ
@@ -39,12 +49,6 @@ module _ {N M : ℕ} {G : Instance} {agents items : List ℕ} (sound : Sound N M
   rising : Rising agents
   rising = pairwise-sublist (λ x y. x < y) (state .of-agents) (range-rising 1 N)
 
-  as-long : (l : List ℕ) → length l ≡ length items → length l ≡ length values
-  as-long l same = same ∙ sym (length-map items (itemValue (valuation (G .valuations) (cutterOf agents))))
-
-  reached : leastBundle n values (cutOf G agents items) ≡ maximinShare n values
-  reached = leastBundle-maximinPartition n values some
-
   pub round-as-documented : RoundAsDocumented G (round G agents items)
   unfolding round
   round-as-documented =
@@ -53,10 +57,9 @@ module _ {N M : ℕ} {G : Instance} {agents items : List ℕ} (sound : Sound N M
         items-rise = pairwise-sublist (λ x y. x < y) (state .of-items) (range-rising 1 M);
         cutter-left = cutterOf-mem agents some;
         cutter-lowest = cutterOf-lowest agents rising;
+        share-of-left = maximinShare n values;
         cut = cutOf G agents items;
-        cut-partition = cut-within sound some state;
-        cut-greatest = λ l p. rw reached (leastBundle-le-maximinShare n values l (p .0) (as-long l (p .1)));
-        cut-first = λ l p same. maximinPartition-precedes n values some l (p .0) (as-long l (p .1)) (same ∙ reached);
+        cut-of-left = share-and-cut-as-documented n values some;
         waiting-tight = (waitingOf-largest suiting agents .sublist, waitingOf-largest suiting agents .bound);
         waiting-largest = λ set t. waitingOf-largest suiting agents .largest set (t .0) (t .1);
         waiting-first = λ set t. waitingOf-first suiting agents rising set (t .0) (t .1);
@@ -72,14 +75,6 @@ module _ {N M : ℕ} {G : Instance} {agents items : List ℕ} (sound : Sound N M
       suiting : ℕ → ℕ → Bool
       suiting = cutSuits G agents items
 
--- every round of every division: n agents, m items and any table
-pub every-round-as-documented : (n m : ℕ) (table : List (List ℕ)) (r : Round) → Mem r (allRounds n m (standardInstance n m table))
-    → RoundAsDocumented (standardInstance n m table) r
-every-round-as-documented n m table =
-    let G = standardInstance n m table in
-    rounds-each (sound n m (termsFor n) table (termsFor-allowed n)) (RoundAsDocumented G) (λ agents items. round-as-documented (sound n m (termsFor n) table (termsFor-allowed n)))
-    n (range 1 n) (range 1 m) (left-all n m G)
-
 rounds-follow-on : (G : Instance) (most : ℕ) (agents items : List ℕ) → length agents ≤ most → FollowOn agents items (rounds G most agents items)
 unfolding rounds
 rounds-follow-on G zero agents items few = empty agents few
@@ -89,6 +84,16 @@ rounds-follow-on G (suc most) (a ∷ agents) items few =
     let (of-agents, of-items) = round-begins G (a ∷ agents) items in
     (of-agents, of-items, rounds-follow-on G most (r .waiting) (r .left) (omega (arith, waiting-falls G (a ∷ agents) items (omega arith))))
 
--- the rounds of every division begin with all agents and all items
-pub all-rounds-follow-on : (n m : ℕ) (table : List (List ℕ)) → FollowOn (range 1 n) (range 1 m) (allRounds n m (standardInstance n m table))
-all-rounds-follow-on n m table = rounds-follow-on (standardInstance n m table) n (range 1 n) (range 1 m) (le-of-eq (length-range 1 n))
+-- all rounds of every division: n agents, m items, any table and any terms that promise no more than document 01
+module _ (n m : ℕ) (terms : Terms) (table : List (List ℕ)) where
+  abbrev G : Instance
+  G = instanceOf n terms (profile n m table)
+
+  -- they begin with all agents and all items
+  pub all-rounds-follow-on : FollowOn (range 1 n) (range 1 m) (allRounds n m G)
+  all-rounds-follow-on = rounds-follow-on G n (range 1 n) (range 1 m) (le-of-eq (length-range 1 n))
+
+  pub every-round-as-documented : Allowed n terms → (r : Round) → Mem r (allRounds n m G) → RoundAsDocumented G r
+  every-round-as-documented allowed =
+      let is-sound = sound n m terms table allowed in
+      rounds-each is-sound (RoundAsDocumented G) (λ agents items. round-as-documented is-sound) n (range 1 n) (range 1 m) (left-all n m G)

@@ -5,6 +5,7 @@ pub mod round
 pub mod Allocation
 pub mod Answers
 pub mod EveryRound
+pub mod DividedAsDocumented
 pub mod Graded
 pub mod Theorems
 pub mod Samples

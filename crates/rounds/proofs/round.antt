@@ -5,3 +5,4 @@ pub mod Held
 pub mod Parts
 pub mod Invariant
 pub mod Rounds
+pub mod Served

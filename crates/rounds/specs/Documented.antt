@@ -1,27 +1,41 @@
--- The sentences of document 01, "Rounds", as statements on a round and on a list of rounds. Assumes nothing: these are definitions.
+-- The sentences of document 01, "Share and cut" and "Rounds", as statements on a cut, on a round, on a list of rounds and on a division.
+-- Assumes nothing: these are definitions.
 use mathlib.Core.Path.{_≡_}
 use mathlib.Core.Bool.{Bool, not}
 use mathlib.Core.List.{List, [], _∷_, map, List·Memᴰ as Mem}
 use mathlib.Core.List.{Sublistᴰ as Sublist}
 use Prim.Native.Nat.{ℕ, _≤_}
 use lib.ListN.{length}
-use Rattle.lists.specs.Lists.{Within, Rising, elem}
+use Rattle.lists.specs.Lists.{range, Within, Rising, nth, count, elem}
 use Rattle.lists.specs.Dictionary.{Precedes}
 use Rattle.sheet.specs.Valuations.{itemValue}
-use Rattle.sheet.specs.Tables.{valuation}
+use Rattle.sheet.specs.Tables.{valuation, allValues, profile}
 use Rattle.maximin.specs.Share.{leastBundle}
+use Rattle.margins.specs.declared.Terms.{Terms}
 use Rattle.matching.specs.Matching.{without, servedAgents, neighbours, freeBundles, Matched, bundleNumbers}
 use Rattle.bundling.specs.Bundles.{itemsIn, bundle}
 use Rattle.rounds.specs.Round.{Instance, suitsIn, Round}
+use Rattle.rounds.specs.Division.{Division}
+
+-- the sentences of document 01, "Share and cut", on items of these values and n bundles
+module _ (n : ℕ) (values : List ℕ) where
+  -- "A layout gives each piece of the set, in rising order, a pile from 1 to n"
+  abbrev pub IsPartition : List ℕ → Type 0
+  IsPartition l = Within n l × (length l ≡ length values)
+
+  pub record ShareAndCut (share : ℕ) (cut : List ℕ) : Type 0 where
+    -- "The maximin share is the greatest least pile over all layouts"
+    pub share-greatest : (l : List ℕ) → IsPartition l → leastBundle n values l ≤ share
+    -- "The cut is a layout that reaches it."
+    pub cut-partition : IsPartition cut
+    pub cut-reaches : leastBundle n values cut ≡ share
+    -- "of several lists of numbers, the first in dictionary order"
+    pub cut-first : (l : List ℕ) → IsPartition l → leastBundle n values l ≡ share → Precedes cut l
 
 module _ (G : Instance) (r : Round) where
-  -- "A layout gives each piece of the set, in rising order, a pile from 1 to n": of the items left, into as many bundles as agents left
-  abbrev pub PartitionOfLeft : List ℕ → Type 0
-  PartitionOfLeft l = Within (length (r .agents)) l × (length l ≡ length (r .items))
-
-  -- "The least pile of a layout is the smallest worth among all n piles", by the cutter's valuation
-  abbrev pub leastOfPartition : List ℕ → ℕ
-  leastOfPartition = leastBundle (length (r .agents)) (map (itemValue (valuation (G .valuations) (r .cutter))) (r .items))
+  -- the cutter's values of the items left
+  abbrev pub valuesLeft : List ℕ
+  valuesLeft = map (itemValue (valuation (G .valuations) (r .cutter))) (r .items)
 
   -- a "set of yards left, without the cutter, for which at most as many piles suit some yard of the set as the set has yards", in rising order
   abbrev pub TightSet : List ℕ → List ℕ → Type 0
@@ -43,10 +57,9 @@ module _ (G : Instance) (r : Round) where
     pub cutter-left : Mem (r .cutter) (r .agents)
     pub cutter-lowest : (agent : ℕ) → Mem agent (r .agents) → r .cutter ≤ agent
     -- "It cuts the pieces left into n piles.": by a layout whose least pile is the greatest, of several such layouts by the first
+    pub share-of-left : ℕ
     pub cut : List ℕ
-    pub cut-partition : PartitionOfLeft cut
-    pub cut-greatest : (l : List ℕ) → PartitionOfLeft l → leastOfPartition l ≤ leastOfPartition cut
-    pub cut-first : (l : List ℕ) → PartitionOfLeft l → leastOfPartition l ≡ leastOfPartition cut → Precedes cut l
+    pub cut-of-left : ShareAndCut (length (r .agents)) valuesLeft share-of-left cut
     -- "The waiting set is the largest set of yards left, without the cutter, for which .." "Of several largest sets, the tie rule picks"
     pub waiting-tight : TightSet cut (r .waiting)
     pub waiting-largest : (set : List ℕ) → TightSet cut set → length set ≤ length (r .waiting)
@@ -66,3 +79,28 @@ module _ (G : Instance) (r : Round) where
 abbrev pub FollowOn : List ℕ → List ℕ → List Round → Type 0
 FollowOn agents items [] = agents ≡ []
 FollowOn agents items (r ∷ rs) = (r .agents ≡ agents) × (r .items ≡ items) × FollowOn (r .waiting) (r .left) rs
+
+module _ (n m : ℕ) (terms : Terms) (table : List (List ℕ)) (d : Division) where
+  -- what the rounds of a division go by: the terms, the places in use of the table, and the shares in the division
+  abbrev pub instanceIn : Instance
+  instanceIn = record { terms = terms; valuations = profile n m table; shares = d .shares }
+
+  -- demand 2, of the division of a table of n agents (yards) and m items (pieces): "Each yard's maximin share, the cut that shows it, every
+  -- round and every pile are those of section 3.1 of the paper, with ties settled as document 01 says."
+  pub record DividedAsDocumented : Type 0 where
+    -- "Each yard's maximin share, the cut that shows it": "over all pieces and N piles", by the marks of the table
+    pub share-each : length (d .shares) ≡ n
+    pub cut-each : length (d .cuts) ≡ n
+    pub share-and-cut : (agent : ℕ) → 1 ≤ agent → agent ≤ n
+        → ShareAndCut n (allValues m (valuation table agent)) (nth 0 (d .shares) agent) (nth [] (d .cuts) agent)
+    -- "every round": from all agents and all items, each as document 01 says, until no agent waits
+    pub rounds : List Round
+    pub rounds-follow-on : FollowOn (range 1 n) (range 1 m) rounds
+    pub rounds-as-documented : (r : Round) → Mem r rounds → RoundAsDocumented instanceIn r
+    -- "the cutter of each round in turn"
+    pub cutters-of-rounds : d .cutters ≡ map (λ r. r .cutter) rounds
+    -- "every pile": each agent is served in one round, and its bundle is the one at its place among those served there
+    pub bundle-each : length (d .bundles) ≡ n
+    pub served-once : (agent : ℕ) → 1 ≤ agent → agent ≤ n → count (λ r. elem agent (r .served)) rounds ≡ 1
+    pub bundles-of-rounds : (r : Round) → Mem r rounds → (k : ℕ) → 1 ≤ k → k ≤ length (r .served)
+        → nth [] (d .bundles) (nth 0 (r .served) k) ≡ nth [] (r .bundles) k

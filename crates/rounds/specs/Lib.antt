@@ -1,4 +1,4 @@
 -- The division of a table by the rounds of document 01, and its grade.
 pub mod Round
-pub mod Documented
 pub mod Division
+pub mod Documented

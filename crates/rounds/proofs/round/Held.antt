@@ -4,13 +4,14 @@ use mathlib.Core.Bool.{Bool, true, false, not, cond, _||_, false≢true, true≢
 use mathlib.Core.Logic.{⊎-elim}
 use mathlib.Core.List.{List, [], _∷_, map, List·Memᴰ as Mem, List·Memᴰ·head as here, List·Memᴰ·tail as there}
 use mathlib.Core.List.{List·Memᴰ·not-nil as not-nil, List·Memᴰ·cases-cons as cases-cons}
-use Prim.Native.Nat.{ℕ, suc, _+_}
+use Prim.Native.Nat.{ℕ, zero, suc, _+_, _-_, _<_}
 use native.Mathlib.Omega.{arith}
 use lib.Dec.{eqb}
-use lib.ListN.{length}
+use lib.ListN.{length, getD}
 use borrow.Author.Tests.{eq-eqb, ne-eqb, eqb-true, not-true}
 use Rattle.lists.specs.Sums.{total, sumOver}
 use Rattle.lists.specs.Lists.{elem, distinct}
+use Rattle.lists.proofs.ranges.Ranges.{in-range, nth-mem}
 use Rattle.lists.proofs.members.Distinct.{mem-elem}
 use Rattle.lists.proofs.sums.Totals.{sumOver-cong}
 use Rattle.matching.specs.Matching.{suited}
@@ -68,6 +69,20 @@ given-suits suits agent (a ∷ served) (b ∷ bundles) later each m = step (eqb 
         → suits agent (cond t b (given agent served bundles later)) ≡ true
     step true e below = rw (eqb-true agent a e) (each .0)
     step false e below = below (⊎-elim (λ d. absurd (true≢false (sym (eq-eqb agent a d) ∙ e))) (λ n. n) (cases-cons m))
+
+-- an agent that is served is given the bundle at its place
+pub given-at : (served : List ℕ) (bundles : List (List ℕ)) (later : List ℕ) → distinct served ≡ true → length bundles ≡ length served
+    → (i : ℕ) → i < length served → given (getD served i 0) served bundles later ≡ getD bundles i []
+given-at [] bundles later once same i lt = absurd (omega arith)
+given-at (a ∷ served) [] later once same i lt = absurd (omega arith)
+given-at (a ∷ served) (b ∷ bundles) later once same zero lt = rw (eq-eqb a a refl)
+given-at (a ∷ served) (b ∷ bundles) later once same (suc i) lt =
+    let (out, once′) = and-eq-true-iff (not (elem a served)) (distinct served) .0 once in
+    let agent = getD served i 0 in
+    let before : suc i - 1 ≡ i = omega arith in
+    let mem : Mem agent served = rw before at (nth-mem 0 served (length served) refl (in-range 1 (length served) (suc i) (omega arith) (omega arith))) in
+    rw (ne-eqb agent a (λ e. true≢false (sym (mem-elem mem) ∙ ap (λ y. elem y served) e ∙ not-true (elem a served) out)))
+    (given-at served bundles later once′ (omega arith) i (omega arith))
 
 -- the agents that are served are given the bundles that are handed out
 pub sumOver-given : (w : List ℕ → ℕ) (served : List ℕ) (bundles : List (List ℕ)) (later : ℕ → List ℕ) → distinct served ≡ true → length bundles ≡ length served

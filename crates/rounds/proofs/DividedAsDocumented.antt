@@ -1,0 +1,74 @@
+-- Demand 2: in every division that is answered the shares, the cuts, the rounds and the bundles are as document 01 says. Assumes nothing.
+use mathlib.Core.Path.{_≡_, refl, sym, ap, _∙_}
+use mathlib.Core.List.{List, [], map, map-map, List·Memᴰ as Mem}
+use Prim.Native.Nat.{ℕ, _≤_}
+use native.Mathlib.Nat.{le-of-eq}
+use native.Mathlib.Omega.{arith}
+use lib.ListN.{length, length-map}
+use Rattle.lists.specs.Lists.{range, nth}
+use Rattle.lists.proofs.ranges.Ranges.{in-range, length-range, nth-map-range, nth-mem}
+use Rattle.sheet.specs.Answers.{accepted}
+use Rattle.sheet.specs.Tables.{valuation, allValues, profile}
+use Rattle.maximin.specs.Share.{maximinShare, maximinPartition}
+use Rattle.shares.proofs.Profile.{nth-shares}
+use Rattle.margins.specs.declared.Terms.{Terms}
+use Rattle.margins.specs.Terms.{termsFor}
+use Rattle.rounds.specs.Round.{Instance, Round, held}
+use Rattle.rounds.specs.Division.{Division, instanceOf, allRounds, divisionOf, answer}
+use Rattle.rounds.specs.Documented.{ShareAndCut, DividedAsDocumented}
+use Rattle.rounds.proofs.density.Terms.{Allowed, termsFor-allowed}
+use Rattle.rounds.proofs.round.Invariant.{left-all}
+use Rattle.rounds.proofs.round.Served.{served-among, served-in-one-round, held-at-place}
+use Rattle.rounds.proofs.Allocation.{sound, length-allocation}
+use Rattle.rounds.proofs.Answers.{answer-accepted}
+use Rattle.rounds.proofs.EveryRound.{share-and-cut-as-documented, all-rounds-follow-on, every-round-as-documented}
+
+-- the division by the rounds: any table, and any terms that promise no more than document 01
+module _ (n m : ℕ) (terms : Terms) (table : List (List ℕ)) (allowed : Allowed n terms) where
+  abbrev G : Instance
+  G = instanceOf n terms (profile n m table)
+
+  each-in-use : {A : Type 0} (f : List ℕ → A) → length (map f (profile n m table)) ≡ n
+  unfolding profile
+  each-in-use f = length-map (profile n m table) f ∙ length-map (range 1 n) (λ i. allValues m (valuation table i)) ∙ length-range 1 n
+
+  nth-cuts : {agent : ℕ} → Mem agent (range 1 n) → nth [] (map (maximinPartition n) (profile n m table)) agent ≡ maximinPartition n (allValues m (valuation table agent))
+  unfolding profile
+  nth-cuts {agent} in-use =
+      ap (λ l. nth [] l agent) (map-map (maximinPartition n) (λ i. allValues m (valuation table i)) (range 1 n))
+      ∙ nth-map-range (λ i. maximinPartition n (allValues m (valuation table i))) [] n in-use
+
+  own-share-and-cut : (agent : ℕ) → 1 ≤ agent → agent ≤ n
+      → ShareAndCut n (allValues m (valuation table agent)) (nth 0 (map (maximinShare n) (profile n m table)) agent) (nth [] (map (maximinPartition n) (profile n m table)) agent)
+  own-share-and-cut agent lo hi =
+      let in-use : Mem agent (range 1 n) = in-range 1 n agent lo (omega arith) in
+      rw (nth-shares n m table in-use, nth-cuts in-use) (share-and-cut-as-documented n (allValues m (valuation table agent)) (omega arith))
+
+  bundle-at-place : (r : Round) → Mem r (allRounds n m G) → (k : ℕ) → 1 ≤ k → k ≤ length (r .served)
+      → nth [] (map (held (allRounds n m G)) (range 1 n)) (nth 0 (r .served) k) ≡ nth [] (r .bundles) k
+  bundle-at-place r mr k lo hi =
+      let agent-served : Mem (nth 0 (r .served) k) (r .served) = nth-mem 0 (r .served) (length (r .served)) refl (in-range 1 (length (r .served)) k lo (omega arith)) in
+      nth-map-range (held (allRounds n m G)) [] n (served-among G n (range 1 n) (range 1 m) r mr (nth 0 (r .served) k) agent-served)
+      ∙ held-at-place (sound n m terms table allowed) n (range 1 n) (range 1 m) (left-all n m G) r mr k lo hi
+
+  pub rounds-divide-as-documented : DividedAsDocumented n m terms table (divisionOf n m G)
+  unfolding divisionOf
+  rounds-divide-as-documented =
+      record {
+        share-each = each-in-use (maximinShare n);
+        cut-each = each-in-use (maximinPartition n);
+        share-and-cut = own-share-and-cut;
+        rounds = allRounds n m G;
+        rounds-follow-on = all-rounds-follow-on n m terms table;
+        rounds-as-documented = every-round-as-documented n m terms table allowed;
+        cutters-of-rounds = refl;
+        bundle-each = length-allocation n m terms table;
+        served-once = λ agent lo hi. served-in-one-round G n (range 1 n) (range 1 m) (le-of-eq (length-range 1 n)) agent (in-range 1 n agent lo (omega arith));
+        bundles-of-rounds = bundle-at-place;
+      }
+
+-- demand 2, for every table: whatever is answered as a division is as document 01 says
+pub answer-as-documented : (n m : ℕ) (table : List (List ℕ)) (allowance : ℕ) (d : Division) → answer n m table allowance ≡ accepted d
+    → DividedAsDocumented n m (termsFor n) table d
+answer-as-documented n m table allowance d divided =
+    rw (answer-accepted n m table allowance d divided .0) (rounds-divide-as-documented n m (termsFor n) table (termsFor-allowed n))
