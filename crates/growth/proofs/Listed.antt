@@ -5,7 +5,7 @@ use Prim.Native.Nat.{ℕ, zero, suc, _≤_, min, max}
 use native.Mathlib.Omega.{arith}
 use lib.ListN.{length, replicate}
 use Rattle.lists.specs.Lists.{range, Pairwise}
-use Rattle.lists.specs.Dictionary.{InOrder, Differ}
+use Rattle.lists.specs.Dictionary.{Precedes, Differ}
 use Rattle.lists.proofs.ranges.Ranges.{in-range, range-bounds}
 use Rattle.lists.proofs.dictionary.Listed.{in-branches, branch-of}
 use Rattle.lists.proofs.dictionary.Dictionary.{range-rising, branches-in-order, branches-differ}
@@ -27,7 +27,7 @@ listed-grows n used (suc k) m =
     subst⁻¹ (λ x. Grows n used x × (length x ≡ suc k)) (b .parts) ((r .0, omega arith, t .0), ap suc (t .1))
 
 -- in dictionary order
-pub growths-in-order : (n used k : ℕ) → Pairwise InOrder (growthFrom n used k)
+pub growths-in-order : (n used k : ℕ) → Pairwise Precedes (growthFrom n used k)
 growths-in-order n used zero = (λ y m. absurd (not-nil m), tt)
 growths-in-order n used (suc k) =
     branches-in-order (λ c. growthFrom n (max used c) k) (range 1 (min (suc used) n)) (range-rising 1 (min (suc used) n)) (λ c. growths-in-order n (max used c) k)

@@ -8,14 +8,14 @@ use lib.Dec.{eqb}
 use lib.ListN.{length}
 use borrow.Author.Tests.{eq-eqb}
 use Rattle.lists.specs.Lists.{filter, Rising}
-use Rattle.lists.specs.Dictionary.{listsOver, greatest, Precedes, InOrder, sublists}
+use Rattle.lists.specs.Dictionary.{listsOver, greatest, Precedes, sublists}
 use Rattle.lists.proofs.dictionary.First.{firstBest-reaches}
 use Rattle.lists.proofs.dictionary.Listed.{in-listsOver}
-use Rattle.lists.proofs.dictionary.Dictionary.{range-rising, pairwise-sublist, listsOver-in-order, sublists-in-order, firstThat-in-order}
+use Rattle.lists.proofs.dictionary.Dictionary.{precedes-refl, range-rising, listsOver-in-order, firstThat-first, pairwise-sublist, InOrder, sublists-in-order}
 use Rattle.lists.proofs.members.Counting.{filter-sublist, reject-sublist}
 use Rattle.matching.specs.Matching.{without, wanted, neighbours, tight, waitingSet, matches, Matched, matching, cutterOf, bundleNumbers, waitingOf, servedOf, freeOf, chosenOf}
 use Rattle.matching.proofs.Waiting.{mem-tight}
-use Rattle.matching.proofs.Matching.{suited-length, matching-matched}
+use Rattle.matching.proofs.Matching.{suited-length}
 
 module _ (suits : ℕ → ℕ → Bool) where
   -- no other largest tight set comes before the waiting set
@@ -23,7 +23,7 @@ module _ (suits : ℕ → ℕ → Bool) where
       → length (waitingSet suits agents bundles) ≡ length zs → Precedes (waitingSet suits agents bundles) zs
   unfolding waitingSet
   waitingSet-precedes agents bundles rising zs s le same =
-      firstThat-in-order (λ l. eqb (length l) (greatest length sets)) sets
+      firstThat-first InOrder (λ l same. precedes-refl l) (λ l. eqb (length l) (greatest length sets)) sets
       (pairwise-sublist InOrder (filter-sublist (tight suits bundles) (sublists agents)) (sublists-in-order agents rising)) listed
       (eq-eqb (length zs) (greatest length sets) (sym same ∙ firstBest-reaches length sets listed .1)) same
     where
@@ -38,10 +38,8 @@ module _ (suits : ℕ → ℕ → Bool) where
   unfolding matching
   matching-precedes agents bundles chosen rising s =
       let same = suited-length suits agents chosen (s .suits-each) in
-      let first = matching-matched suits agents bundles chosen s in
-      firstThat-in-order (matches suits agents) (listsOver bundles (length agents)) (listsOver-in-order bundles (length agents) rising)
+      firstThat-first Precedes precedes-refl (matches suits agents) (listsOver bundles (length agents)) (listsOver-in-order bundles (length agents) rising)
       (rw same at (in-listsOver bundles chosen (s .from-bundles))) (rw (s .suits-each, s .injective))
-      (suited-length suits agents (matching suits agents bundles) (first .suits-each) ∙ sym same)
 
 -- a round of agents left in rising order
 module _ (suits : ℕ → ℕ → Bool) (agents : List ℕ) where

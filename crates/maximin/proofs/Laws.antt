@@ -1,5 +1,5 @@
 -- The laws of the maximin share and of the cut that the crates above cite. Assumes nothing.
-use mathlib.Core.Path.{_≡_, sym, subst, _∙_}
+use mathlib.Core.Path.{_≡_, subst}
 use mathlib.Core.List.{List, List·Memᴰ as Mem}
 use Prim.Native.Nat.{ℕ, _*_, _/_, _≤_}
 use native.Mathlib.Nat.{le-of-mul-le-mul-left, le-div-iff-mul-le, mul-comm}
@@ -13,7 +13,7 @@ use Rattle.lists.specs.Dictionary.{Precedes}
 use Rattle.lists.proofs.sums.LeastOf.{leastOf-le}
 use Rattle.lists.proofs.sums.Sums.{sumOf-same, sumOf-mono}
 use Rattle.lists.proofs.dictionary.First.{le-greatest, firstBest-reaches}
-use Rattle.lists.proofs.dictionary.Dictionary.{range-rising, listsOver-in-order, firstThat-in-order}
+use Rattle.lists.proofs.dictionary.Dictionary.{precedes-refl, range-rising, listsOver-in-order, firstThat-first}
 use Rattle.maximin.specs.Partitions.{partitions}
 use Rattle.maximin.specs.Share.{bundleValue, leastBundle, maximinShare, maximinPartition}
 use Rattle.maximin.proofs.Partitions.{in-partitions, partition-within, partitions-inhabited, bundles-le-total}
@@ -64,6 +64,6 @@ module _ (n : ℕ) (values : List ℕ) where
         → Precedes (maximinPartition n values) l
     unfolding maximinPartition
     maximinPartition-precedes l w same reached =
-        firstThat-in-order (λ k. eqb (leastBundle n values k) (maximinShare n values)) (partitions n (length values))
+        firstThat-first Precedes precedes-refl (λ k. eqb (leastBundle n values k) (maximinShare n values)) (partitions n (length values))
         (listsOver-in-order (range 1 n) (length values) (range-rising 1 n)) (subst (λ k. Mem l (partitions n k)) same (in-partitions n l w))
-        (eq-eqb (leastBundle n values l) (maximinShare n values) reached) (maximinPartition-within .1 ∙ sym same)
+        (eq-eqb (leastBundle n values l) (maximinShare n values) reached)
