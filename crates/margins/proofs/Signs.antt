@@ -1,7 +1,7 @@
 -- The sign of a margin, and its size: what makes 64 bits enough. Assumes nothing.
 use mathlib.Core.Path.{_≡_, refl, sym}
 use mathlib.Core.Bool.{Bool, true, false, cond}
-use Prim.Native.Nat.{ℕ, zero, suc, _*_, _-_, _≤_, _<_}
+use Prim.Native.Nat.{ℕ, zero, suc, _*_, _-_, _^_, _≤_, _<_}
 use native.Mathlib.Nat.{mul-le-mul}
 use native.Mathlib.Omega.{arith}
 use lib.Dec.{leb, ltb}
@@ -9,8 +9,8 @@ use lib.IntN.{pos, negsuc, _-ℤ_}
 use lib.Signed.{mag, nonNeg}
 use borrow.Author.Tests.{ltb-true, ltb-false, le-leb, lt-leb}
 use Rattle.sheet.specs.Limits.{mostAgents, greatestSum}
-use Rattle.margins.specs.Terms.{termsFor}
-use Rattle.margins.specs.Margins.{margin}
+use Rattle.margins.specs.Terms.{largestOdd, termsFor}
+use Rattle.margins.specs.Margins.{margin, greatestMargin}
 use Rattle.margins.specs.declared.Terms.{Terms}
 use Rattle.margins.proofs.TermsFor.{top-small, bottom-small}
 
@@ -37,15 +37,18 @@ pub nonNeg-margin : (terms : Terms) (worth share : ℕ) → nonNeg (margin terms
 unfolding margin
 nonNeg-margin terms worth share = nonNeg-difference (terms .bottom * worth) (terms .top * share)
 
--- no margin on a sheet has more than so many without its sign
-abbrev pub greatestMargin : ℕ
-greatestMargin = 14 * greatestSum
+-- 63 bits beside the sign are enough for it
+pub greatestMargin-small : greatestMargin < 2 ^ 63
+unfolding termsFor largestOdd
+greatestMargin-small = omega arith
 
 -- the two products of a margin within the limits of a sheet
 pub held-small : (n worth : ℕ) → n ≤ mostAgents → worth ≤ greatestSum → termsFor n .bottom * worth ≤ greatestMargin
+unfolding termsFor largestOdd
 held-small n worth few small = mul-le-mul (bottom-small n few) small
 
 pub promised-small : (n share : ℕ) → n ≤ mostAgents → share ≤ greatestSum → termsFor n .top * share ≤ greatestMargin
+unfolding termsFor largestOdd
 promised-small n share few small = omega (arith, mul-le-mul (top-small n few) small)
 
 pub margin-small : (n worth share : ℕ) → n ≤ mostAgents → worth ≤ greatestSum → share ≤ greatestSum → mag (margin (termsFor n) worth share) < suc greatestMargin

@@ -28,3 +28,7 @@ marginWithin agents worth share = margin (termsFor (min agents mostAgents)) (min
 -- the margins in six places, 0 after the last agent
 abbrev pub marginsStored : ℕ → List ℕ → List ℕ → List ℤ
 marginsStored agents worths shares = padded mostAgents (pos 0) (map (λ i. marginWithin agents (nth 0 worths i) (nth 0 shares i)) (range 1 (min agents mostAgents)))
+
+-- no margin on a sheet is greater without its sign: the greatest bottom times the greatest sum
+abbrev pub greatestMargin : ℕ
+greatestMargin = termsFor mostAgents .bottom * greatestSum

@@ -1,6 +1,6 @@
 -- `margins::margin_of` meets its contract: by the limits of a sheet both products and their difference fit 64 bits. Assumes nothing.
 use mathlib.Core.Path.{_≡_, sym, ap₂, subst, _∙_}
-use Prim.Native.Nat.{ℕ, _*_, _≤_, _^_, min}
+use Prim.Native.Nat.{ℕ, _*_, _<_, _^_, min}
 use native.Mathlib.Omega.{arith}
 use lib.IntN.{pos, _-ℤ_}
 use mir.Syntax.{w64}
@@ -11,7 +11,7 @@ use Rattle.sheet.specs.Limits.{mostAgents, greatestSum}
 use Rattle.margins.specs.Terms.{termsFor}
 use Rattle.margins.specs.Margins.{margin}
 use Rattle.margins.specs.declared.Terms.{Terms}
-use Rattle.margins.proofs.Signs.{greatestMargin, held-small, promised-small, difference-small}
+use Rattle.margins.proofs.Signs.{difference-small, greatestMargin-small, held-small, promised-small}
 use Rattle.margins.proofs.margin_of.Statement.{statement}
 use Rattle.margins.proofs.margin_of.Tie as tie
 
@@ -24,20 +24,20 @@ held : (c : tie.After-limited)
     c .before .terms-for .result .bottom * c .limited .result ≡ termsFor (min (a .agents) mostAgents) .bottom * min (a .worth) greatestSum
 held c = ap₂ (λ (t : Terms) x. t .bottom * x) (c .before .terms-for .ensures) (c .limited .ensures)
 
-held-fits : (c : tie.After-limited) → c .before .terms-for .result .bottom * c .limited .result ≤ greatestMargin
+held-fits : (c : tie.After-limited) → c .before .terms-for .result .bottom * c .limited .result < 2 ^ 63
 held-fits c =
     let a = c .before .before .args in
-    rw (held c) (held-small (min (a .agents) mostAgents) (min (a .worth) greatestSum) (omega arith) (omega arith))
+    rw (held c) (omega (arith, held-small (min (a .agents) mostAgents) (min (a .worth) greatestSum) (omega arith) (omega arith), greatestMargin-small))
 
 promised : (c : tie.After-limited2)
     → let a = c .before .before .before .before .args in
     c .before .before .before .terms-for .result .top * c .limited2 .result ≡ termsFor (min (a .agents) mostAgents) .top * min (a .share) greatestSum
 promised c = ap₂ (λ (t : Terms) x. t .top * x) (c .before .before .before .terms-for .ensures) (c .limited2 .ensures)
 
-promised-fits : (c : tie.After-limited2) → c .before .before .before .terms-for .result .top * c .limited2 .result ≤ greatestMargin
+promised-fits : (c : tie.After-limited2) → c .before .before .before .terms-for .result .top * c .limited2 .result < 2 ^ 63
 promised-fits c =
     let a = c .before .before .before .before .args in
-    rw (promised c) (promised-small (min (a .agents) mostAgents) (min (a .share) greatestSum) (omega arith) (omega arith))
+    rw (promised c) (omega (arith, promised-small (min (a .agents) mostAgents) (min (a .share) greatestSum) (omega arith) (omega arith), greatestMargin-small))
 
 terms-for-requires : tie.Need-terms-for-requires
 terms-for-requires c κs = search needs
@@ -61,10 +61,10 @@ cast-result-2 : tie.Need-cast-result-2
 cast-result-2 c = record { sfits = omega (arith, promised-fits (c .before)) }
 
 -- small numbers are read as they are, and their difference fits
-read-difference : (a b : ℕ) → a ≤ greatestMargin → b ≤ greatestMargin → toZ w64 a -ℤ toZ w64 b ≡ pos a -ℤ pos b
+read-difference : (a b : ℕ) → a < 2 ^ 63 → b < 2 ^ 63 → toZ w64 a -ℤ toZ w64 b ≡ pos a -ℤ pos b
 read-difference a b small small′ = ap₂ _-ℤ_ (toZ-pos w64 a (omega arith)) (toZ-pos w64 b (omega arith))
 
-difference-fits : (a b : ℕ) → a ≤ greatestMargin → b ≤ greatestMargin → SFits w64 (toZ w64 a -ℤ toZ w64 b)
+difference-fits : (a b : ℕ) → a < 2 ^ 63 → b < 2 ^ 63 → SFits w64 (toZ w64 a -ℤ toZ w64 b)
 difference-fits a b small small′ =
     subst (SFits w64) (sym (read-difference a b small small′)) (record { sfits = difference-small a b (2 ^ 63) (omega arith) (omega arith) })
 
