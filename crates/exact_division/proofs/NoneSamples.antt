@@ -9,7 +9,7 @@ use Rattle.lists.specs.Lists.{range, all}
 use Rattle.lists.specs.Sums.{sumOver}
 use Rattle.sheet.specs.Limits.{CountsWithin}
 use Rattle.sheet.specs.Answers.{accepted}
-use Rattle.sheet.proofs.ThreePlayers.{players}
+use Rattle.sheet.specs.ThreePlayers.{players}
 use Rattle.shares.proofs.Shown.{shows, shares-shown}
 use Rattle.shares.proofs.ThreePlayers.{partitionsShown}
 use Rattle.exact_division.specs.Search.{searching}

@@ -21,7 +21,7 @@ use Rattle.grades.specs.Grade.{envyFree, proportional, maximinFair, grade}
 use Rattle.rounds.specs.Division.{Division, divisionOf, divisionByRounds, answer}
 use Rattle.rounds.proofs.Answers.{answer-within-limits, answer-refused-14}
 use Rattle.sheet.specs.Answers.{Answer, refused, accepted}
-use Rattle.sheet.proofs.ThreePlayers.{players}
+use Rattle.sheet.specs.ThreePlayers.{players}
 use Rattle.growth.specs.Growth.{growths}
 use Rattle.growth.proofs.Growths.{twelve-into-three}
 use Rattle.shares.specs.Shares.{sharesCovered, sharing, sharingWithin}

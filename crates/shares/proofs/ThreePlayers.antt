@@ -8,7 +8,7 @@ use lib.ListN.{replicate}
 use Rattle.lists.specs.Lists.{range, nth}
 use Rattle.lists.specs.Sums.{total}
 use Rattle.sheet.specs.Tables.{valuation, allValues}
-use Rattle.sheet.proofs.ThreePlayers.{players}
+use Rattle.sheet.specs.ThreePlayers.{players}
 use Rattle.maximin.specs.Share.{bundleValue}
 use Rattle.shares.specs.Shares.{shareOf}
 use Rattle.shares.proofs.Shown.{shares-shown}

@@ -3,7 +3,7 @@ use mathlib.Core.Path.{_≡_}
 use mathlib.Core.List.{map}
 use lib.ListN.{replicate}
 use Rattle.lists.specs.Lists.{range}
-use Rattle.sheet.proofs.ThreePlayers.{players}
+use Rattle.sheet.specs.ThreePlayers.{players}
 use Rattle.sheet_lines.specs.Kept.{tableOf}
 use Rattle.shares.specs.Shares.{shareOf}
 use Rattle.shares.proofs.ThreePlayers.{three-players-shares}

@@ -11,9 +11,10 @@ use Rattle.sheet.specs.Limits.{blankRow}
 use Rattle.sheet.specs.Answers.{accepted, andThen}
 use Rattle.sheet.specs.Valuations.{itemValue}
 use Rattle.sheet.specs.Tables.{AgreeInUse}
-use Rattle.sheet.proofs.ThreePlayers.{players}
+use Rattle.sheet.specs.ThreePlayers.{players}
 use Rattle.sheet_lines.specs.Kept.{tableOf}
-use Rattle.reading.proofs.ThreePlayers.{threePlayersSheet, three-players-read}
+use Rattle.reading.specs.SampleTexts.{threePlayersSheet}
+use Rattle.reading.proofs.ThreePlayers.{three-players-read}
 use Rattle.writing.specs.Filled.{filling}
 use Rattle.exact_division.specs.Search.{searching}
 use Rattle.exact_division.proofs.Theorems.{agreeing-tables-same-search}
