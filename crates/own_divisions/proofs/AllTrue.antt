@@ -15,13 +15,13 @@ use Rattle.sheet.specs.Allocations.{Allocates}
 use Rattle.maximin.specs.Share.{maximinPartition}
 use Rattle.maximin.proofs.Laws.{maximinPartition-within, leastBundle-maximinPartition}
 use Rattle.shares.specs.Shares.{shareOf}
-use Rattle.shares.proofs.Profile.{nth-shares}
+use Rattle.shares.proofs.Profile.{nth-shares, nth-cuts}
 use Rattle.grades.specs.Scale.{marginsByTable, gradeByTable}
 use Rattle.rounds.specs.Division.{Division, divisionOf, divisionByRounds, answer}
 use Rattle.rounds.proofs.round.Allocating.{allBundles, allBundles-sublist, allBundles-allocate}
 use Rattle.rounds.proofs.Answers.{answer-accepted}
 use Rattle.rounds.proofs.Graded.{division-allocates}
-use Rattle.printing.proofs.printed.Printable.{nth-cuts, divisionByRounds-printable}
+use Rattle.printing.proofs.printed.Printable.{divisionByRounds-printable}
 use Rattle.division_reading.specs.Stated.{Stated}
 use Rattle.stated_truth.specs.Truth.{bundlesOf, noneStated, lineOf, worthTo, leastOfCut, AllTrue}
 use Rattle.stated_truth.specs.Shape.{WellFormed}
@@ -55,7 +55,7 @@ module _ (n m : ℕ) (table : List (List ℕ)) where
 
     cut-own : {i : ℕ} → Mem i (range 1 n) → nth [] (d .cuts) i ≡ maximinPartition n (valuesTo i)
     unfolding divisionOf
-    cut-own in-use = rw by-rounds (nth-cuts n m table (within .some) _ in-use)
+    cut-own in-use = rw by-rounds (nth-cuts n m table in-use)
 
     margins-own : d .margins ≡ marginsByTable n m table (d .bundles)
     unfolding divisionOf

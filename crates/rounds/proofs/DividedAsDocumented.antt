@@ -1,6 +1,6 @@
 -- Demand 2: in every division that is answered the shares, the cuts, the rounds and the bundles are as document 01 says. Assumes nothing.
-use mathlib.Core.Path.{_≡_, refl, sym, ap, _∙_}
-use mathlib.Core.List.{List, [], map, map-map, List·Memᴰ as Mem}
+use mathlib.Core.Path.{_≡_, refl, _∙_}
+use mathlib.Core.List.{List, [], map, List·Memᴰ as Mem}
 use Prim.Native.Nat.{ℕ, _≤_}
 use native.Mathlib.Nat.{le-of-eq}
 use native.Mathlib.Omega.{arith}
@@ -9,8 +9,9 @@ use Rattle.lists.specs.Lists.{range, nth}
 use Rattle.lists.proofs.ranges.Ranges.{in-range, length-range, nth-map-range, nth-mem}
 use Rattle.sheet.specs.Answers.{accepted}
 use Rattle.sheet.specs.Tables.{valuation, allValues, profile}
+use Rattle.sheet.proofs.valuing.Tables.{length-profile}
 use Rattle.maximin.specs.Share.{maximinShare, maximinPartition}
-use Rattle.shares.proofs.Profile.{nth-shares}
+use Rattle.shares.proofs.Profile.{nth-shares, nth-cuts}
 use Rattle.margins.specs.declared.Terms.{Terms}
 use Rattle.margins.specs.Terms.{termsFor}
 use Rattle.rounds.specs.Round.{Instance, Round, held}
@@ -28,21 +29,11 @@ module _ (n m : ℕ) (terms : Terms) (table : List (List ℕ)) (allowed : Allowe
   abbrev G : Instance
   G = instanceOf n terms (profile n m table)
 
-  each-in-use : {A : Type 0} (f : List ℕ → A) → length (map f (profile n m table)) ≡ n
-  unfolding profile
-  each-in-use f = length-map (profile n m table) f ∙ length-map (range 1 n) (λ i. allValues m (valuation table i)) ∙ length-range 1 n
-
-  nth-cuts : {agent : ℕ} → Mem agent (range 1 n) → nth [] (map (maximinPartition n) (profile n m table)) agent ≡ maximinPartition n (allValues m (valuation table agent))
-  unfolding profile
-  nth-cuts {agent} in-use =
-      ap (λ l. nth [] l agent) (map-map (maximinPartition n) (λ i. allValues m (valuation table i)) (range 1 n))
-      ∙ nth-map-range (λ i. maximinPartition n (allValues m (valuation table i))) [] n in-use
-
   own-share-and-cut : (agent : ℕ) → 1 ≤ agent → agent ≤ n
       → ShareAndCut n (allValues m (valuation table agent)) (nth 0 (map (maximinShare n) (profile n m table)) agent) (nth [] (map (maximinPartition n) (profile n m table)) agent)
   own-share-and-cut agent lo hi =
       let in-use : Mem agent (range 1 n) = in-range 1 n agent lo (omega arith) in
-      rw (nth-shares n m table in-use, nth-cuts in-use) (share-and-cut-as-documented n (allValues m (valuation table agent)) (omega arith))
+      rw (nth-shares n m table in-use, nth-cuts n m table in-use) (share-and-cut-as-documented n (allValues m (valuation table agent)) (omega arith))
 
   bundle-at-place : (r : Round) → Mem r (allRounds n m G) → (k : ℕ) → 1 ≤ k → k ≤ length (r .served)
       → nth [] (map (held (allRounds n m G)) (range 1 n)) (nth 0 (r .served) k) ≡ nth [] (r .bundles) k
@@ -55,8 +46,8 @@ module _ (n m : ℕ) (terms : Terms) (table : List (List ℕ)) (allowed : Allowe
   unfolding divisionOf
   rounds-divide-as-documented =
       record {
-        share-each = each-in-use (maximinShare n);
-        cut-each = each-in-use (maximinPartition n);
+        share-each = length-map (profile n m table) (maximinShare n) ∙ length-profile n m table;
+        cut-each = length-map (profile n m table) (maximinPartition n) ∙ length-profile n m table;
         share-and-cut = own-share-and-cut;
         rounds = allRounds n m G;
         rounds-follow-on = all-rounds-follow-on n m terms table;

@@ -1,11 +1,11 @@
 -- Every round of every division is as document 01, "Rounds", says, and begins with what the one before it left. Assumes nothing.
-use mathlib.Core.Path.{_≡_, refl, sym, _∙_}
+use mathlib.Core.Path.{refl}
 use mathlib.Core.Bool.{Bool}
 use mathlib.Core.List.{List, [], _∷_, map, List·Memᴰ as Mem}
 use Prim.Native.Nat.{ℕ, zero, suc, _≤_, _<_}
 use native.Mathlib.Nat.{le-of-eq}
 use native.Mathlib.Omega.{arith}
-use lib.ListN.{length, length-map}
+use lib.ListN.{length}
 use Rattle.lists.specs.Lists.{range, Rising}
 use Rattle.lists.proofs.ranges.Ranges.{length-range}
 use Rattle.lists.proofs.places.Passing.{empty}

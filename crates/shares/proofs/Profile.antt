@@ -1,13 +1,13 @@
--- The share of an agent, by the places in use of a table and by the table. Assumes nothing.
+-- The share and the cut of an agent, by the places in use of a table and by the table. Assumes nothing.
 use mathlib.Core.Path.{_≡_, ap, _∙_}
-use mathlib.Core.List.{List, map, map-map, List·Memᴰ as Mem}
+use mathlib.Core.List.{List, [], map, map-map, List·Memᴰ as Mem}
 use mathlib.Core.List.{Sublistᴰ·refl as sublist-refl}
 use Prim.Native.Nat.{ℕ}
 use Rattle.lists.specs.Lists.{range, nth}
 use Rattle.lists.proofs.ranges.Ranges.{nth-map-range}
 use Rattle.sheet.specs.Tables.{valuation, allValues, profile}
 use Rattle.sheet.proofs.valuing.Tables.{values-profile}
-use Rattle.maximin.specs.Share.{maximinShare}
+use Rattle.maximin.specs.Share.{maximinShare, maximinPartition}
 use Rattle.shares.specs.Shares.{shareOf}
 
 module _ (n m : ℕ) (table : List (List ℕ)) {agent : ℕ} (in-use : Mem agent (range 1 n)) where
@@ -16,6 +16,12 @@ module _ (n m : ℕ) (table : List (List ℕ)) {agent : ℕ} (in-use : Mem agent
   nth-shares =
       ap (λ l. nth 0 l agent) (map-map (maximinShare n) (λ i. allValues m (valuation table i)) (range 1 n))
       ∙ nth-map-range (λ i. shareOf n m table i) 0 n in-use
+
+  pub nth-cuts : nth [] (map (maximinPartition n) (profile n m table)) agent ≡ maximinPartition n (allValues m (valuation table agent))
+  unfolding profile
+  nth-cuts =
+      ap (λ l. nth [] l agent) (map-map (maximinPartition n) (λ i. allValues m (valuation table i)) (range 1 n))
+      ∙ nth-map-range (λ i. maximinPartition n (allValues m (valuation table i))) [] n in-use
 
   pub shareOf-profile : shareOf n m (profile n m table) agent ≡ shareOf n m table agent
   shareOf-profile = ap (maximinShare n) (values-profile n m table in-use (sublist-refl (range 1 m)))

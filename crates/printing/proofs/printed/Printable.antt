@@ -1,7 +1,7 @@
 -- What printing needs of a division by the rounds: how many entries its lists have, and what these are. Assumes nothing.
 use mathlib.Core.Path.{_≡_, ap, _∙_}
 use mathlib.Core.Logic.{⊎-elim}
-use mathlib.Core.List.{List, [], _∷_, map, map-map, List·Memᴰ as Mem, List·Memᴰ·not-nil as not-nil, List·Memᴰ·cases-cons as cases-cons, Memᴰ·of-map}
+use mathlib.Core.List.{List, [], _∷_, map, List·Memᴰ as Mem, List·Memᴰ·not-nil as not-nil, List·Memᴰ·cases-cons as cases-cons, Memᴰ·of-map}
 use mathlib.Core.List.{Sublistᴰ as Sublist}
 use Prim.Native.Nat.{ℕ, zero, suc, _≤_, _<_}
 use native.Mathlib.Omega.{arith}
@@ -11,8 +11,10 @@ use Rattle.lists.proofs.ranges.Ranges.{length-range, mem-within, nth-map-range}
 use Rattle.lists.proofs.members.Counting.{sublist-mem}
 use Rattle.sheet.specs.Valuations.{itemValue}
 use Rattle.sheet.specs.Tables.{valuation, allValues, profile}
+use Rattle.sheet.proofs.valuing.Tables.{length-profile}
 use Rattle.maximin.specs.Share.{maximinShare, maximinPartition}
 use Rattle.maximin.proofs.Laws.{maximinPartition-within}
+use Rattle.shares.proofs.Profile.{nth-cuts}
 use Rattle.grades.proofs.Grades.{grade-bounds}
 use Rattle.matching.proofs.Cutter.{cutterOf-mem}
 use Rattle.margins.specs.Terms.{termsFor}
@@ -50,16 +52,6 @@ module _ (n m : ℕ) (table : List (List ℕ)) (some : 1 ≤ n) where
   abbrev G : Instance
   G = standardInstance n m table
 
-  profile-each : length (profile n m table) ≡ n
-  unfolding profile
-  profile-each = length-map (range 1 n) (λ i. allValues m (valuation table i)) ∙ length-range 1 n
-
-  pub nth-cuts : (i : ℕ) → Mem i (range 1 n) → nth [] (map (maximinPartition n) (profile n m table)) i ≡ maximinPartition n (allValues m (valuation table i))
-  unfolding profile
-  nth-cuts i in-use =
-      ap (λ l. nth [] l i) (map-map (maximinPartition n) (λ k. allValues m (valuation table k)) (range 1 n))
-      ∙ nth-map-range (λ k. maximinPartition n (allValues m (valuation table k))) [] n in-use
-
   all-values : (row : List ℕ) → length (allValues m row) ≡ m
   all-values row = length-map (range 1 m) (itemValue row) ∙ length-range 1 m
 
@@ -68,10 +60,10 @@ module _ (n m : ℕ) (table : List (List ℕ)) (some : 1 ≤ n) where
   divisionByRounds-printable =
       record {
         bundle-each = length-allocation n m (termsFor n) table;
-        share-each = length-map (profile n m table) (maximinShare n) ∙ profile-each;
-        cut-each = length-map (profile n m table) (maximinPartition n) ∙ profile-each;
+        share-each = length-map (profile n m table) (maximinShare n) ∙ length-profile n m table;
+        cut-each = length-map (profile n m table) (maximinPartition n) ∙ length-profile n m table;
         of-items = λ i in-use. rw (nth-map-range (held (allRounds n m G)) [] n in-use) (held-sublist G n (range 1 n) (range 1 m) i);
-        entry-each = λ i in-use. ap length (nth-cuts i in-use) ∙ maximinPartition-within n (allValues m (valuation table i)) some .1 ∙ all-values (valuation table i);
+        entry-each = λ i in-use. ap length (nth-cuts n m table in-use) ∙ maximinPartition-within n (allValues m (valuation table i)) some .1 ∙ all-values (valuation table i);
         cutters-within = mem-within n (map (λ r. r .cutter) (allRounds n m G)) cutter-in-range;
         few-cutters = rw (length-map (allRounds n m G) (λ r. r .cutter)) (rounds-few G n (range 1 n) (range 1 m));
         one-digit = omega (arith, grade-bounds n (profile n m table) (G .shares) (allocationMargins n m G) (allocation n m G));

@@ -91,7 +91,7 @@ module _ {N M : ℕ} {G : Instance} {agents items : List ℕ} (sound : Sound N M
   agents-few = omega (arith, length-sublist (state .of-agents), length-range 1 N)
 
   -- the cut gives each item left one of as many bundles as there are agents left
-  pub cut-within : Within n l × (length l ≡ length items)
+  cut-within : Within n l × (length l ≡ length items)
   cut-within =
       let (within, same) = maximinPartition-within n (map cutter-value items) some in
       (within, same ∙ length-map items cutter-value)

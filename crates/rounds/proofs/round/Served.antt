@@ -55,7 +55,7 @@ module _ (G : Instance) where
             arith,
             ap bit (mem-elem (not-waiting-served G (a ∷ agents) items agent m e)),
             count-none serves (rounds G most (r .waiting) (r .left))
-            (λ s ms. not-mem-elem agent (s .served) (λ mem. true≢false (sym (mem-elem (served-among most (r .waiting) (r .left) s ms agent mem)) ∙ e))),
+                (λ s ms. not-mem-elem agent (s .served) (λ mem. true≢false (sym (mem-elem (served-among most (r .waiting) (r .left) s ms agent mem)) ∙ e))),
           )
 
 module _ {N M : ℕ} {G : Instance} (sound : Sound N M G) where

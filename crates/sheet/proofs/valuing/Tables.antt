@@ -4,13 +4,19 @@ use mathlib.Core.List.{List, [], map, List·Memᴰ as Mem}
 use mathlib.Core.List.{Sublistᴰ as Sublist}
 use Prim.Native.Nat.{ℕ}
 use native.Mathlib.Omega.{arith}
+use lib.ListN.{length, length-map}
 use Rattle.lists.specs.Lists.{range}
 use Rattle.lists.specs.Sums.{total}
-use Rattle.lists.proofs.ranges.Ranges.{range-bounds, nth-map-range}
+use Rattle.lists.proofs.ranges.Ranges.{range-bounds, length-range, nth-map-range}
 use Rattle.lists.proofs.members.Counting.{sublist-mem}
 use Rattle.lists.proofs.sums.Totals.{map-cong}
 use Rattle.sheet.specs.Valuations.{itemValue, value}
 use Rattle.sheet.specs.Tables.{valuation, allValues, profile, AgreeInUse}
+
+-- a row for each of n agents
+pub length-profile : (n m : ℕ) (table : List (List ℕ)) → length (profile n m table) ≡ n
+unfolding profile
+length-profile n m table = length-map (range 1 n) (λ i. allValues m (valuation table i)) ∙ length-range 1 n
 
 module _ (n m : ℕ) (table : List (List ℕ)) {agent : ℕ} (in-use : Mem agent (range 1 n)) where
   pub valuation-profile : valuation (profile n m table) agent ≡ allValues m (valuation table agent)
