@@ -18,7 +18,8 @@ use Rattle.growth.specs.Growth.{growths}
 use Rattle.grades.specs.Scale.{passes, gradeByTable}
 use Rattle.grades.proofs.Scale.{passes-from-grade}
 use Rattle.margins.specs.Terms.{termsFor}
-use Rattle.rounds.specs.Division.{standardInstance, allocation, divisionOf, divisionByRounds, answer}
+use Rattle.rounds.specs.Division.{Division, standardInstance, allocation, divisionOf, divisionByRounds, answer}
+use Rattle.rounds.specs.Documented.{DividedAsDocumented}
 use Rattle.division.specs.Outcome.{outcome}
 use Rattle.division.specs.declared.Answer.the-variants.{Divided}
 use Rattle.division.specs.declared.Outcome.{Outcome}
@@ -26,6 +27,7 @@ use Rattle.division.specs.Promise.{isDivided, isDivision, bundlesIn, all
 use Rattle.rounds.proofs.density.Terms.{termsFor-allowed}
 use Rattle.rounds.proofs.Allocation.{length-allocation, allocation-sublist, holds-promised, allocation-allocates}
 use Rattle.rounds.proofs.Answers.{answer-cases, answer-within-limits, answer-refused-14, same-answer-with-any-allowance}
+use Rattle.rounds.proofs.DividedAsDocumented.{answer-as-documented}
 use Rattle.rounds.proofs.Graded.{never-graded-5}
 use Rattle.rounds.proofs.Theorems.{agreeing-tables-same-answer}
 use Rattle.division.proofs.Outcomes.{bundlesIn-divided}
@@ -83,6 +85,15 @@ module _ (n m : ℕ) (table : List (List ℕ)) (allowance : ℕ) where
   -- demand 3, for every table
   pub promised : Promised n m table allowance answered
   promised = ⊎-elim (λ d. rw (d .0) (promised-divided (d .1) (d .2))) (λ r. rw (r .1) (promised-refused (r .0) (r .1))) (answer-cases n m table allowance)
+
+  -- demand 2, of the code's answer: where it is a division, it has the shares, cuts, cutters and bundles of one that is as document 01 says
+  pub divided-as-documented : isDivision answered ≡ true → (d : Division) × (answered ≡ outcome (accepted d)) × DividedAsDocumented n m (termsFor n) table d
+  divided-as-documented is =
+      let d = divisionByRounds n m table in
+      ⊎-elim
+      (λ c. (d, ap outcome (c .0), answer-as-documented n m table allowance d (c .0)))
+      (λ r. absurd (false≢true (sym (ap (λ a. isDivision (outcome a)) (r .1)) ∙ is)))
+      (answer-cases n m table allowance)
 
   -- a division that is answered passes the test for h exactly where its grade is at most h
   pub divided-passes-from-grade : (g : ℕ) → answered .answer ≡ Divided g → (h : ℕ) → 1 ≤ h → passes n m table (bundlesIn n answered) h ≡ leb g h
