@@ -8,7 +8,7 @@ use Rattle.sheet.specs.Tables.{profile}
 use Rattle.sheet.specs.Answers.{refused, accepted}
 use Rattle.maximin.specs.Share.{maximinShare}
 use Rattle.shares.specs.Shares.{sharesCovered, sharing}
-use Rattle.rounds.proofs.Samples.{starred, samples}
+use Rattle.rounds.specs.SampleSheets.{starred, samples}
 use Rattle.exact_division.specs.Exact.{isExact, exactExists}
 use Rattle.exact_division.specs.Search.{searching}
 

@@ -1,34 +1,30 @@
--- Refusals 4 and 5, and the starred sheets a to i of document 01 in one table, by computation; b and d have the grade of document 02, order 2,
--- all have the margins of order 5, and a sheet of grade 2 stands behind them. Then sheets on either side of order 7's refusal 14. Assumes nothing.
+-- Refusals 4 and 5, the table of starred sheets and the sheet of "Two thirds used for every N", by computation; then sheets on either side of
+-- order 7's refusal 14. Assumes nothing.
 use mathlib.Core.Path.{_≡_, refl, sym, ap, subst}
 use mathlib.Core.Logic.{_⊎_, inl, inr}
 use mathlib.Core.List.{List, [], _∷_, map}
-use Prim.Native.Nat.{ℕ, _≤_, _<_}
+use Prim.Native.Nat.{_≤_, _<_}
 use native.Mathlib.Omega.{arith}
-use lib.IntN.{pos}
+use lib.IntN.{pos, negsuc}
 use Rattle.sheet.specs.Limits.{CountsWithin}
 use Rattle.sheet.specs.Sets.{itemsOf}
-use Rattle.sheet.specs.Valuations.{valuesOf}
+use Rattle.sheet.specs.Valuations.{valuesOf, value}
 use Rattle.maximin.specs.Share.{maximinShare, maximinPartition}
-use Rattle.cut.specs.Outcome.{Found, shared, found, cutting}
-use Rattle.cut.proofs.Samples.{Sample as CutSample}
+use Rattle.cut.specs.Outcome.{Found, found, cutting}
 use Rattle.margins.specs.Terms.{largestOdd, termsFor}
 use Rattle.margins.specs.Margins.{margin}
-use Rattle.sheet.specs.Tables.{profile}
+use Rattle.sheet.specs.Tables.{valuation, profile}
 use Rattle.matching.specs.Matching.{waitingSet, matching}
 use Rattle.rounds.specs.Round.{round, rounds, held}
 use Rattle.grades.specs.Grade.{envyFree, proportional, maximinFair, grade}
-use Rattle.rounds.specs.Division.{Division, divisionOf, divisionByRounds, answer}
+use Rattle.rounds.specs.Division.{Division, instanceOf, divisionOf, divisionByRounds, answer}
+use Rattle.rounds.specs.SampleSheets.{sampleAllowance, answerByDefinitions, answerStated, sheetA, starred, samples, twoThirdsSheet, twoThirds}
 use Rattle.rounds.proofs.Answers.{answer-within-limits, answer-refused-14}
 use Rattle.sheet.specs.Answers.{Answer, refused, accepted}
 use Rattle.sheet.specs.ThreePlayers.{players}
 use Rattle.growth.specs.Growth.{growths}
 use Rattle.growth.proofs.Growths.{twelve-into-three}
-use Rattle.shares.specs.Shares.{sharesCovered, sharing, sharingWithin}
-
--- the allowance of the samples: "The dividing program allows 4,000,000"
-abbrev pub sampleAllowance : ℕ
-sampleAllowance = 4000000
+use Rattle.shares.specs.Shares.{shareOf, sharesCovered, sharing, sharingWithin}
 
 -- 0 and 7 yards give 4, 0 and 13 pieces give 5, and 4 is tried first
 pub refusals-hold : answer 0 3 [] sampleAllowance ∷ answer 7 3 [] sampleAllowance ∷ answer 2 0 [] sampleAllowance ∷ answer 2 13 [] sampleAllowance ∷ answer 7 13 [] sampleAllowance ∷ []
@@ -36,157 +32,29 @@ pub refusals-hold : answer 0 3 [] sampleAllowance ∷ answer 7 3 [] sampleAllowa
 unfolding answer sharingWithin sharing
 refusals-hold = refl
 
--- a sheet, with its division
-pub record Sample : Type 0 where
-  pub agents : ℕ
-  pub items : ℕ
-  pub rows : List (List ℕ)
-  pub division : Division
-
--- a row of the table: a sheet with its division, or a valuation to be cut with its share and partition
-pub data Starred : Type 0 where
-  sheet : (sample : Sample) → Starred
-  cut : (sample : CutSample) → Starred
-
--- what the definitions answer for a row
-abbrev pub worked : Starred → Answer Division ⊎ Answer Found
-worked (sheet s) = inl (answer (s .agents) (s .items) (s .rows) sampleAllowance)
-worked (cut s) = inr (cutting (s .valuation) (s .set) (s .bundles) (s .allowance))
-
--- what the row says
-abbrev pub stated : Starred → Answer Division ⊎ Answer Found
-stated (sheet s) = inl (accepted (s .division))
-stated (cut s) = inr (s .answered)
-
--- sheet a
-abbrev sheetA : Sample
-sheetA =
-    record {
-      agents = 2;
-      items = 3;
-      rows = (5 ∷ 3 ∷ 4 ∷ []) ∷ (6 ∷ 2 ∷ 2 ∷ []) ∷ [];
-      division = record {
-        bundles = (1 ∷ []) ∷ (2 ∷ 3 ∷ []) ∷ [];
-        shares = 5 ∷ 4 ∷ [];
-        cuts = (1 ∷ 2 ∷ 2 ∷ []) ∷ (1 ∷ 2 ∷ 2 ∷ []) ∷ [];
-        margins = pos 0 ∷ pos 0 ∷ [];
-        cutters = 1 ∷ [];
-        grade = 3;
-      };
-    }
-
-unfoldable pub starred : List Starred
-starred =
-    -- a
-    sheet sheetA
-    -- b
-    ∷ sheet (record {
-      agents = 3;
-      items = 4;
-      rows = (1 ∷ 1 ∷ 1 ∷ 1 ∷ []) ∷ (6 ∷ 6 ∷ 3 ∷ 3 ∷ []) ∷ (2 ∷ 2 ∷ 2 ∷ 2 ∷ []) ∷ [];
-      division = record {
-        bundles = (3 ∷ []) ∷ (1 ∷ 2 ∷ []) ∷ (4 ∷ []) ∷ [];
-        shares = 1 ∷ 6 ∷ 2 ∷ [];
-        cuts = (1 ∷ 1 ∷ 2 ∷ 3 ∷ []) ∷ (1 ∷ 2 ∷ 3 ∷ 3 ∷ []) ∷ (1 ∷ 1 ∷ 2 ∷ 3 ∷ []) ∷ [];
-        margins = pos 2 ∷ pos 60 ∷ pos 4 ∷ [];
-        cutters = 1 ∷ 2 ∷ [];
-        grade = 3;
-      };
-    })
-    -- c
-    ∷ sheet (record {
-      agents = 3;
-      items = 4;
-      rows = (1 ∷ 1 ∷ 1 ∷ 1 ∷ []) ∷ (4 ∷ 4 ∷ 3 ∷ 1 ∷ []) ∷ (1 ∷ 1 ∷ 1 ∷ 1 ∷ []) ∷ [];
-      division = record {
-        bundles = (1 ∷ 2 ∷ []) ∷ (3 ∷ []) ∷ (4 ∷ []) ∷ [];
-        shares = 1 ∷ 4 ∷ 1 ∷ [];
-        cuts = (1 ∷ 1 ∷ 2 ∷ 3 ∷ []) ∷ (1 ∷ 2 ∷ 3 ∷ 3 ∷ []) ∷ (1 ∷ 1 ∷ 2 ∷ 3 ∷ []) ∷ [];
-        margins = pos 10 ∷ pos 0 ∷ pos 2 ∷ [];
-        cutters = 1 ∷ [];
-        grade = 4;
-      };
-    })
-    -- d
-    ∷ sheet (record {
-      agents = 3;
-      items = 4;
-      rows = (1 ∷ 1 ∷ 1 ∷ 1 ∷ []) ∷ (8 ∷ 8 ∷ 5 ∷ 3 ∷ []) ∷ (1 ∷ 1 ∷ 1 ∷ 1 ∷ []) ∷ [];
-      division = record {
-        bundles = (3 ∷ []) ∷ (1 ∷ 2 ∷ []) ∷ (4 ∷ []) ∷ [];
-        shares = 1 ∷ 8 ∷ 1 ∷ [];
-        cuts = (1 ∷ 1 ∷ 2 ∷ 3 ∷ []) ∷ (1 ∷ 2 ∷ 3 ∷ 3 ∷ []) ∷ (1 ∷ 1 ∷ 2 ∷ 3 ∷ []) ∷ [];
-        margins = pos 2 ∷ pos 80 ∷ pos 2 ∷ [];
-        cutters = 1 ∷ 2 ∷ [];
-        grade = 3;
-      };
-    })
-    -- e
-    ∷ sheet (record {
-      agents = 2;
-      items = 1;
-      rows = (7 ∷ []) ∷ (9 ∷ []) ∷ [];
-      division = record {
-        bundles = (1 ∷ []) ∷ [] ∷ [];
-        shares = 0 ∷ 0 ∷ [];
-        cuts = (1 ∷ []) ∷ (1 ∷ []) ∷ [];
-        margins = pos 14 ∷ pos 0 ∷ [];
-        cutters = 1 ∷ [];
-        grade = 3;
-      };
-    })
-    -- f
-    ∷ sheet (record {
-      agents = 2;
-      items = 2;
-      rows = (0 ∷ 0 ∷ []) ∷ (0 ∷ 0 ∷ []) ∷ [];
-      division = record {
-        bundles = (1 ∷ 2 ∷ []) ∷ [] ∷ [];
-        shares = 0 ∷ 0 ∷ [];
-        cuts = (1 ∷ 1 ∷ []) ∷ (1 ∷ 1 ∷ []) ∷ [];
-        margins = pos 0 ∷ pos 0 ∷ [];
-        cutters = 1 ∷ [];
-        grade = 1;
-      };
-    })
-    -- g
-    ∷ cut (record { valuation = 1 ∷ 2 ∷ 3 ∷ 4 ∷ 5 ∷ 6 ∷ 7 ∷ []; set = 0b1111111; bundles = 3; allowance = sampleAllowance; answered = accepted (shared 9 (1 ∷ 1 ∷ 2 ∷ 3 ∷ 3 ∷ 1 ∷ 2 ∷ []) 365) })
-    -- h
-    ∷ cut (record { valuation = 2 ∷ 2 ∷ 2 ∷ 2 ∷ []; set = 0b1111; bundles = 2; allowance = sampleAllowance; answered = accepted (shared 4 (1 ∷ 1 ∷ 2 ∷ 2 ∷ []) 8) })
-    -- i
-    ∷ sheet (record {
-      agents = 1;
-      items = 3;
-      rows = (3 ∷ 0 ∷ 9 ∷ []) ∷ [];
-      division = record {
-        bundles = (1 ∷ 2 ∷ 3 ∷ []) ∷ [];
-        shares = 12 ∷ [];
-        cuts = (1 ∷ 1 ∷ 1 ∷ []) ∷ [];
-        margins = pos 0 ∷ [];
-        cutters = 1 ∷ [];
-        grade = 1;
-      };
-    })
-    -- even: every pile is worth just a third of its yard's total; yard 3 counts yard 1's pile as worth more
-    ∷ sheet (record {
-      agents = 3;
-      items = 3;
-      rows = (1 ∷ 1 ∷ 1 ∷ []) ∷ (1 ∷ 1 ∷ 1 ∷ []) ∷ (5 ∷ 1 ∷ 3 ∷ []) ∷ [];
-      division = record {
-        bundles = (1 ∷ []) ∷ (2 ∷ []) ∷ (3 ∷ []) ∷ [];
-        shares = 1 ∷ 1 ∷ 1 ∷ [];
-        cuts = (1 ∷ 2 ∷ 3 ∷ []) ∷ (1 ∷ 2 ∷ 3 ∷ []) ∷ (1 ∷ 2 ∷ 3 ∷ []) ∷ [];
-        margins = pos 2 ∷ pos 2 ∷ pos 18 ∷ [];
-        cutters = 1 ∷ [];
-        grade = 2;
-      };
-    })
-    ∷ []
-
 -- "The starred sheets are proved as a table, by one theorem covering its rows"
-pub starred-hold : map worked starred ≡ map stated starred
+pub starred-hold : map answerByDefinitions starred ≡ map answerStated starred
 unfolding starred answer divisionOf sharingWithin growths sharing sharesCovered profile termsFor largestOdd round rounds held waitingSet matching maximinShare maximinPartition margin grade envyFree proportional maximinFair cutting found valuesOf itemsOf
 starred-hold = refl
+
+-- "With yard 2 of case c at 9 9 6 3, a pile of 6 would pass at 2/3 and fails at 6/8": its share is 9, and the margin of the pile {3} is below
+-- zero by the terms for three yards, and zero by two thirds
+pub six-of-nine-falls-short :
+    let share = shareOf 3 4 (twoThirdsSheet .rows) 2 in
+    let worth = value (valuation (twoThirdsSheet .rows) 2) (3 ∷ []) in
+    (share ≡ 9) × (worth ≡ 6) × (margin (termsFor 3) worth share ≡ negsuc 5) × (margin twoThirds worth share ≡ pos 0)
+unfolding termsFor largestOdd maximinShare margin
+six-of-nine-falls-short = (refl, refl, refl, refl)
+
+-- so yard 2 waits, and its pile is {1 2}
+pub six-of-nine-not-handed-out : answer 3 4 (twoThirdsSheet .rows) sampleAllowance ≡ accepted (twoThirdsSheet .division)
+unfolding answer divisionOf sharingWithin growths sharing sharesCovered profile termsFor largestOdd round rounds held waitingSet matching maximinShare maximinPartition margin grade envyFree proportional maximinFair
+six-of-nine-not-handed-out = refl
+
+-- by two thirds it would be served at once, with the pile of 6
+pub six-of-nine-handed-out-at-two-thirds : divisionOf 3 4 (instanceOf 3 twoThirds (profile 3 4 (twoThirdsSheet .rows))) .bundles ≡ (1 ∷ 2 ∷ []) ∷ (3 ∷ []) ∷ (4 ∷ []) ∷ []
+unfolding divisionOf profile round rounds held waitingSet matching maximinShare maximinPartition
+six-of-nine-handed-out-at-two-thirds = refl
 
 -- sheet a has four growth layouts: an allowance of three gives 14, one of four its division; and 4 and 5 are tried before 14
 pub allowances-hold : answer 2 3 (sheetA .rows) 3 ∷ answer 2 3 (sheetA .rows) 4 ∷ answer 7 3 [] 0 ∷ answer 2 13 [] 0 ∷ []
@@ -203,15 +71,6 @@ three-players-refused = answer-refused-14 3 12 players 88573 players-within .1 (
 
 pub three-players-divided : answer 3 12 players 88574 ≡ accepted (divisionByRounds 3 12 players)
 three-players-divided = answer-within-limits 3 12 players 88574 players-within (subst (λ count. count ≤ 88574) (sym twelve-into-three) (omega arith))
-
--- the sheets of the table
-abbrev pub sheetsOf : List Starred → List Sample
-sheetsOf [] = []
-sheetsOf (sheet s ∷ rows) = s ∷ sheetsOf rows
-sheetsOf (cut s ∷ rows) = sheetsOf rows
-
-abbrev pub samples : List Sample
-samples = sheetsOf starred
 
 -- the divisions among several answers
 abbrev divisionsOf : List (Answer Division ⊎ Answer Found) → List (Answer Division)

@@ -9,7 +9,8 @@ use Rattle.text.specs.Decimal.{digitsIn, decimal, spacedNumbers}
 use Rattle.writing.specs.Filled.{filling}
 use Rattle.sheet.specs.Answers.{accepted, andThen}
 use Rattle.rounds.specs.Division.{answer}
-use Rattle.rounds.proofs.Samples.{sampleAllowance, starred, samples, samples-hold}
+use Rattle.rounds.specs.SampleSheets.{sampleAllowance, starred, samples}
+use Rattle.rounds.proofs.Samples.{samples-hold}
 use Rattle.printing.specs.Printed.{headLine, pileGroup, amounts, cutGroup, yardLine, cuttersLine, allLines, printed}
 use Rattle.printing.specs.Printing.{printing}
 
