@@ -3,6 +3,7 @@
 -- sheet at the front of a text, the shape of a division that is read, what the code keeps of it, and how each answer of judging is printed.
 pub mod Theorems
 pub mod NoAllowance
+pub mod Respaced
 pub mod Longest
 pub mod Texts
 pub mod Fit
