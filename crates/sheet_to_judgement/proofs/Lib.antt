@@ -4,6 +4,7 @@
 pub mod Theorems
 pub mod NoAllowance
 pub mod Respaced
+pub mod Samples
 pub mod Longest
 pub mod Texts
 pub mod Fit
