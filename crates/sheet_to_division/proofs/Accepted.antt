@@ -9,15 +9,10 @@ use Rattle.reading.proofs.Accepted.{accepted-text, accepted-carried, accepted-c
 use Rattle.reading.proofs.SmallMarks.{table-small}
 use Rattle.growth.specs.Growth.{growths}
 use Rattle.growth.proofs.Growths.{mostGrowths, growths-le-most}
-use Rattle.rounds.specs.Division.{divisionByRounds}
-use Rattle.printing.specs.Printed.{printed}
 use Rattle.printing.specs.Printing.{longestPrinted, printing}
 use Rattle.printing.proofs.printed.Longest.{printing-within-limits}
 use Rattle.sheet_to_division.specs.ShareOut.{shareOut, standardAllowance}
-
--- the text of the division of a sheet
-abbrev pub printedDivision : Contents → List ℕ
-printedDivision sheet = printed (sheet .agents) (sheet .items) (sheet .table) (divisionByRounds (sheet .agents) (sheet .items) (sheet .table))
+use Rattle.sheet_to_division.specs.PrintedDivision.{printedDivision}
 
 -- an accepted text whose growth partitions do not outnumber the allowance gets its division, with a buffer of `longestPrinted` bytes
 pub accepted-printed : (s : List ℕ) (allowance room : ℕ) (sheet : Contents) → reading s ≡ accepted sheet → growths (sheet .agents) (sheet .items) ≤ allowance

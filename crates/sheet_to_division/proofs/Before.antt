@@ -4,17 +4,12 @@ use mathlib.Core.Path.{_≡_, sym, _∙_}
 use mathlib.Core.List.{List}
 use Prim.Native.Nat.{ℕ, _≤_}
 use Rattle.sheet.specs.Limits.{earlierMarkLimits}
-use Rattle.sheet.specs.Answers.{Answer, accepted, andThen}
+use Rattle.sheet.specs.Answers.{accepted}
 use Rattle.reading.specs.Reading.{Contents, readingWithin}
 use Rattle.reading.proofs.WiderMarks.{accepted-before, answered-as-before}
 use Rattle.printing.specs.Printing.{longestPrinted, printing}
-use Rattle.sheet_to_division.specs.ShareOut.{shareOut, standardAllowance}
+use Rattle.sheet_to_division.specs.ShareOut.{shareOut, standardAllowance, shareOutBefore}
 use Rattle.sheet_to_division.proofs.Accepted.{no-sheet-lost}
-
--- what a text and a lent buffer were answered then: `shareOut` with the limits of then
-abbrev pub shareOutBefore : List ℕ → ℕ → ℕ → Answer (List ℕ)
-shareOutBefore text allowance room =
-    andThen (readingWithin earlierMarkLimits text) (λ sheet. printing (sheet .agents) (sheet .items) (sheet .table) allowance room)
 
 module _ (text : List ℕ) (sheet : Contents) (read : readingWithin earlierMarkLimits text ≡ accepted sheet) where
   pub accepted-before-divides-alike : (allowance room : ℕ) → shareOut text allowance room ≡ shareOutBefore text allowance room

@@ -1,8 +1,9 @@
 -- What a text and a lent buffer are answered. Assumes nothing: these are definitions.
 use mathlib.Core.List.{List}
 use Prim.Native.Nat.{ℕ}
+use Rattle.sheet.specs.Limits.{earlierMarkLimits}
 use Rattle.sheet.specs.Answers.{Answer, andThen}
-use Rattle.reading.specs.Reading.{reading}
+use Rattle.reading.specs.Reading.{readingWithin, reading}
 use Rattle.printing.specs.Printing.{printing}
 
 -- "An entry that reads a sheet tries 1 to 9 first, and one that fills a lent buffer tries 10 last", and 14 "after 9 and before 10" (document
@@ -13,3 +14,9 @@ shareOut text allowance room = andThen (reading text) (λ sheet. printing (sheet
 -- "The dividing program allows 4,000,000" (document 02, order 7)
 abbrev pub standardAllowance : ℕ
 standardAllowance = 4000000
+
+-- "Sheets accepted before divide as they did" (document 02, order 3): what a text and a lent buffer were answered before, when a mark went to
+-- 65,535 in five digits
+abbrev pub shareOutBefore : List ℕ → ℕ → ℕ → Answer (List ℕ)
+shareOutBefore text allowance room =
+    andThen (readingWithin earlierMarkLimits text) (λ sheet. printing (sheet .agents) (sheet .items) (sheet .table) allowance room)

@@ -3,16 +3,12 @@ use mathlib.Core.Path.{_≡_}
 use mathlib.Core.List.{List}
 use Prim.Native.Nat.{ℕ}
 use Rattle.sheet.specs.Limits.{earlierMarkLimits}
-use Rattle.sheet.specs.Answers.{Answer, accepted, andThen}
+use Rattle.sheet.specs.Answers.{accepted}
 use Rattle.writing.specs.Filled.{filling}
 use Rattle.reading.specs.Reading.{Contents, readingWithin}
 use Rattle.reading.proofs.WiderMarks.{answered-as-before}
 use Rattle.strict_text.specs.StrictText.{strictText}
-use Rattle.sheet_to_strict.specs.Rewriting.{rewriting}
-
--- what a text and a lent buffer were answered then: `rewriting` with the limits of then
-abbrev pub rewritingBefore : List ℕ → ℕ → Answer (List ℕ)
-rewritingBefore text room = andThen (readingWithin earlierMarkLimits text) (λ sheet. filling room (strictText sheet))
+use Rattle.sheet_to_strict.specs.Rewriting.{rewriting, rewritingBefore}
 
 pub accepted-before-written-alike : (text : List ℕ) (sheet : Contents) → readingWithin earlierMarkLimits text ≡ accepted sheet → (room : ℕ)
     → rewriting text room ≡ rewritingBefore text room
