@@ -17,6 +17,10 @@ itemsIn t (k ∷ ks) (c ∷ l) = consIf (t c) k (itemsIn t ks l)
 abbrev pub bundle : List ℕ → List ℕ → ℕ → List ℕ
 bundle items l c = itemsIn (eqb c) items l
 
+-- the bundles 1 .. n of a partition of the items 1 .. m, in turn
+abbrev pub allBundles : ℕ → ℕ → List ℕ → List (List ℕ)
+allBundles n m partition = map (bundle (range 1 m) partition) (range 1 n)
+
 -- the set of each bundle of a partition of the items of a set, from the first bundle upward
 unfoldable pub bundleSets : ℕ → List ℕ → List ℕ
 bundleSets set partition = map (λ c. setOf (bundle (itemsOf set) partition c)) (range 1 mostAgents)

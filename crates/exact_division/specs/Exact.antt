@@ -1,7 +1,7 @@
 -- Divisions in which every agent (yard) has its whole maximin share (document 02, order 4). Assumes nothing: these are definitions.
 use mathlib.Core.Path.{_≡_}
 use mathlib.Core.Bool.{Bool, true}
-use mathlib.Core.List.{List, [], map, List·Memᴰ as Mem}
+use mathlib.Core.List.{List, [], List·Memᴰ as Mem}
 use Prim.Native.Nat.{ℕ}
 use lib.Dec.{leb}
 use Rattle.lists.specs.Lists.{range, nth, any, all, Rising}
@@ -9,12 +9,12 @@ use Rattle.sheet.specs.Valuations.{value}
 use Rattle.sheet.specs.Tables.{valuation}
 use Rattle.sheet.specs.Allocations.{Allocates}
 use Rattle.maximin.specs.Partitions.{partitions}
-use Rattle.bundling.specs.Bundles.{bundle}
+use Rattle.bundling.specs.Bundles.{allBundles}
 use Rattle.shares.specs.Shares.{shareOf}
 
 -- "giving each piece to a yard": the bundle of each of n agents, where entry k of the list names the agent who gets item k
 abbrev pub bundlesBy : ℕ → ℕ → List ℕ → List (List ℕ)
-bundlesBy n m agents = map (bundle (range 1 m) agents) (range 1 n)
+bundlesBy n m agents = allBundles n m agents
 
 -- a table of n agents and m items
 module _ (n m : ℕ) (table : List (List ℕ)) where

@@ -12,13 +12,15 @@ use Rattle.sheet.specs.Answers.{accepted}
 use Rattle.sheet.specs.Valuations.{itemValue}
 use Rattle.sheet.specs.Tables.{valuation, allValues}
 use Rattle.sheet.specs.Allocations.{Allocates}
+use Rattle.sheet.proofs.valuing.Tables.{value-allValues}
 use Rattle.maximin.specs.Share.{maximinPartition}
 use Rattle.maximin.proofs.Laws.{maximinPartition-within, leastBundle-maximinPartition}
 use Rattle.shares.specs.Shares.{shareOf}
 use Rattle.shares.proofs.Profile.{nth-shares, nth-cuts}
 use Rattle.grades.specs.Scale.{marginsByTable, gradeByTable}
+use Rattle.bundling.specs.Bundles.{allBundles}
 use Rattle.rounds.specs.Division.{Division, divisionOf, divisionByRounds, answer}
-use Rattle.rounds.proofs.round.Allocating.{allBundles, allBundles-sublist, allBundles-allocate}
+use Rattle.rounds.proofs.round.Allocating.{allBundles-sublist, allBundles-allocate}
 use Rattle.rounds.proofs.Answers.{answer-accepted}
 use Rattle.rounds.proofs.Graded.{division-allocates}
 use Rattle.printing.proofs.printed.Printable.{divisionByRounds-printable}
@@ -27,7 +29,7 @@ use Rattle.stated_truth.specs.Truth.{bundlesOf, noneStated, lineOf, worthTo, le
 use Rattle.stated_truth.specs.Shape.{WellFormed}
 use Rattle.own_divisions.specs.StatedBy.{statedLineBy, statedBy}
 use Rattle.stated_truth.proofs.Shape.{sublist-bundle}
-use Rattle.own_divisions.proofs.CutBundles.{value-allValues, leastOf-allBundles}
+use Rattle.own_divisions.proofs.CutBundles.{leastOf-allBundles}
 
 module _ (n m : ℕ) (table : List (List ℕ)) where
   -- the values that agent i puts on the items

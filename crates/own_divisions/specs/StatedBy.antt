@@ -4,7 +4,7 @@ use Prim.Native.Nat.{ℕ}
 use Rattle.lists.specs.Lists.{range, nth}
 use Rattle.sheet.specs.Valuations.{value}
 use Rattle.sheet.specs.Tables.{valuation}
-use Rattle.bundling.specs.Bundles.{bundle}
+use Rattle.bundling.specs.Bundles.{allBundles}
 use Rattle.rounds.specs.Division.{Division}
 use Rattle.division_reading.specs.Stated.{StatedLine, Stated}
 
@@ -15,7 +15,7 @@ statedLineBy agents items table d i =
       bundle = nth [] (d .bundles) i;
       worth = value (valuation table i) (nth [] (d .bundles) i);
       share = nth 0 (d .shares) i;
-      cut = map (bundle (range 1 items) (nth [] (d .cuts) i)) (range 1 agents);
+      cut = allBundles agents items (nth [] (d .cuts) i);
     }
 
 -- "The head repeats the counts and adds the grade", and there is a line for each yard

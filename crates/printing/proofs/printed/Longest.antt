@@ -2,23 +2,19 @@
 -- Assumes nothing.
 use mathlib.Core.Path.{_≡_}
 use mathlib.Core.List.{List, [], List·Memᴰ as Mem}
-use mathlib.Core.List.{Sublistᴰ as Sublist, Sublistᴰ·refl as sublist-refl}
-use Prim.Native.Nat.{ℕ, _*_, _^_, _≤_, _<_}
-use native.Mathlib.Nat.{mul-le-mul-right}
+use Prim.Native.Nat.{ℕ, _+_, _^_, _≤_, _<_}
 use native.Mathlib.Omega.{arith}
 use lib.ListN.{length}
 use borrow.Author.Tests.{le-leb}
 use Rattle.lists.specs.Lists.{range, nth}
-use Rattle.lists.proofs.ranges.Ranges.{length-range}
-use Rattle.lists.proofs.members.Counting.{length-sublist}
-use Rattle.lists.proofs.sums.Totals.{sumOver-le}
+use Rattle.lists.proofs.places.Places.{nth-next}
 use Rattle.sheet.specs.Limits.{mostAgents, mostItems, greatestMark, sumDigits, CountsWithin}
 use Rattle.sheet.specs.Answers.{accepted}
 use Rattle.sheet.specs.Valuations.{itemValue, value}
-use Rattle.sheet.specs.Tables.{valuation, allValues}
-use Rattle.maximin.proofs.Laws.{shares-le-total}
+use Rattle.sheet.specs.Tables.{valuation}
+use Rattle.sheet.proofs.valuing.Tables.{value-small}
 use Rattle.growth.specs.Growth.{growths}
-use Rattle.shares.specs.Shares.{shareOf}
+use Rattle.shares.proofs.Marks.{share-small}
 use Rattle.shares.proofs.Profile.{nth-shares}
 use Rattle.rounds.specs.Division.{divisionOf, divisionByRounds}
 use Rattle.rounds.proofs.Answers.{answer-within-limits}
@@ -27,30 +23,16 @@ use Rattle.printing.specs.Printing.{printing, longestPrinted}
 use Rattle.printing.proofs.printed.Printable.{divisionByRounds-printable}
 use Rattle.printing.proofs.printed.Lengths.{length-printed}
 
--- the values of some of the items 1 .. m
-value-small : (row : List ℕ) (m : ℕ) {items : List ℕ} → m ≤ mostItems → ((k : ℕ) → itemValue row k ≤ greatestMark) → Sublist items (range 1 m) → value row items ≤ mostItems * greatestMark
-value-small row m {items} few small s =
-    omega (arith, sumOver-le (itemValue row) 1 greatestMark items (λ k mk. omega (arith, small k)), length-sublist s, length-range 1 m)
-
 -- "six rows of twelve places", each mark at most the greatest: the worths and shares of the division of every such table
 module _ (n m : ℕ) (table : List (List ℕ)) (some : 1 ≤ n) (few-items : m ≤ mostItems) (small : (i k : ℕ) → itemValue (valuation table i) k ≤ greatestMark) where
   pub divisionByRounds-worth-small : (i : ℕ) → Mem i (range 1 n) → value (valuation table i) (nth [] (divisionByRounds n m table .bundles) i) < 10 ^ sumDigits
   divisionByRounds-worth-small i in-use =
-      omega (arith, value-small (valuation table i) m few-items (small i) (divisionByRounds-printable n m table some .of-items i in-use))
-
-  shareOf-small : (i : ℕ) → shareOf n m table i < 10 ^ sumDigits
-  shareOf-small i =
-      let row = valuation table i in
-      omega (
-        arith,
-        shares-le-total n (allValues m row) some,
-        mul-le-mul-right (shareOf n m table i) some,
-        value-small row m few-items (small i) (sublist-refl (range 1 m)),
-      )
+      omega (arith, value-small m (valuation table i) (divisionByRounds-printable n m table some .of-items i in-use) few-items (small i))
 
   pub divisionByRounds-share-small : (i : ℕ) → Mem i (range 1 n) → nth 0 (divisionByRounds n m table .shares) i < 10 ^ sumDigits
   unfolding divisionOf
-  divisionByRounds-share-small i in-use = rw (nth-shares n m table in-use) (shareOf-small i)
+  divisionByRounds-share-small i in-use =
+      rw (nth-shares n m table in-use) (omega (arith, share-small n m (valuation table i) some few-items (λ k. omega (arith, nth-next 0 (valuation table i) k, small i (k + 1)))))
 
   -- and its printed text
   pub divisionByRounds-length : n ≤ mostAgents → length (printed n m table (divisionByRounds n m table)) ≤ longestPrinted

@@ -14,29 +14,26 @@ use Rattle.lists.proofs.members.Counting.{sublist-mem}
 use Rattle.lists.proofs.members.Distinct.{mem-elem, range-distinct}
 use Rattle.lists.proofs.sums.InOneList.{in-one-list}
 use Rattle.sheet.specs.Allocations.{Allocates}
-use Rattle.bundling.specs.Bundles.{bundle}
+use Rattle.bundling.specs.Bundles.{bundle, allBundles}
 use Rattle.bundling.proofs.Bundles.{itemsIn-sublist}
 use Rattle.rounds.proofs.round.Bundles.{itemsIn-none, sumOver-handed}
 
 module _ (n m : ℕ) (partition : List ℕ) where
-  abbrev pub allBundles : List (List ℕ)
-  allBundles = map (bundle (range 1 m) partition) (range 1 n)
-
   -- each bundle is a sub-list of the items
-  pub allBundles-sublist : (b : List ℕ) → Mem b allBundles → Sublist b (range 1 m)
+  pub allBundles-sublist : (b : List ℕ) → Mem b (allBundles n m partition) → Sublist b (range 1 m)
   allBundles-sublist b mb =
       let (c, _, e) = Memᴰ·of-map (bundle (range 1 m) partition) (range 1 n) mb in
       rw (← e) (itemsIn-sublist (eqb c) (range 1 m) partition)
 
-  pub allBundles-allocate : Within n partition → length partition ≡ m → Allocates n m allBundles
+  pub allBundles-allocate : Within n partition → length partition ≡ m → Allocates n m (allBundles n m partition)
   allBundles-allocate within places =
       record {
         bundle-each = length-map (range 1 n) (bundle (range 1 m) partition) ∙ length-range 1 n;
-        item-in-one-bundle = λ k lo hi. in-one-list m allBundles all-given k (in-range 1 m k lo (omega arith));
+        item-in-one-bundle = λ k lo hi. in-one-list m (allBundles n m partition) all-given k (in-range 1 m k lo (omega arith));
         no-other-item = λ b mb k mk. omega (arith, range-bounds 1 m (sublist-mem (allBundles-sublist b mb) mk));
       }
     where
-      all-given : (w : ℕ → ℕ) → total (map (sumOver w) allBundles) ≡ sumOver w (range 1 m)
+      all-given : (w : ℕ → ℕ) → total (map (sumOver w) (allBundles n m partition)) ≡ sumOver w (range 1 m)
       all-given w =
           let none-left = itemsIn-none (λ c. not (elem c (range 1 n))) (range 1 m) partition (λ c mc. ap not (mem-elem (within-mem n partition within c mc))) in
           omega (
