@@ -9,35 +9,31 @@ use Rattle.reading.specs.Reading.{Contents, reading}
 use Rattle.reading.proofs.Accepted.{accepted-counts}
 use Rattle.strict_text.specs.StrictText.{strictText}
 use Rattle.strict_text.proofs.RoundTrip.{reading-withinLimits}
-use Rattle.strict_text.proofs.AtFront.{strictText-at-front}
 use Rattle.writing.specs.Filled.{filling}
 use Rattle.growth.proofs.Growths.{mostGrowths}
-use Rattle.rounds.specs.Division.{Division, divisionByRounds}
 use Rattle.rounds.proofs.Answers.{answer-with-most}
-use Rattle.printing.specs.Printed.{printedWithoutCutters}
+use Rattle.sheet_to_division.specs.PrintedDivision.{divisionOfSheet}
 use Rattle.sheet_to_judgement.specs.AcceptedText.{acceptedText, longestAccepted}
-use Rattle.sheet_to_judgement.specs.TextJudged.{sheetJudged, textJudged, judgementFrom}
+use Rattle.sheet_to_judgement.specs.TextJudged.{textJudged, judgementFrom}
 use Rattle.sheet_to_judgement.proofs.Longest.{accepted-judged}
-use Rattle.own_divisions.proofs.BehindSheet.{length-sheet-and-division}
-use Rattle.own_divisions.proofs.Judged.{own-text-judged}
-
--- the box's division of a sheet, and its text "without the cutters line" behind the strict text of the sheet
-abbrev pub divisionOfSheet : Contents → Division
-divisionOfSheet sheet = divisionByRounds (sheet .agents) (sheet .items) (sheet .table)
-
-abbrev pub sheetAndDivision : Contents → List ℕ
-sheetAndDivision sheet = strictText sheet ++ printedWithoutCutters (sheet .agents) (sheet .items) (sheet .table) (divisionOfSheet sheet)
+use Rattle.sheet_to_judgement.proofs.TrueDivisions.{true-division-accepted}
+use Rattle.own_divisions.specs.StatedBy.{statedBy}
+use Rattle.own_divisions.specs.SheetAndDivision.{sheetAndDivision}
+use Rattle.own_divisions.proofs.AllTrue.{own-division-true, own-division-shape, own-division-margins}
+use Rattle.own_divisions.proofs.PrintedText.{printed-is-stated}
 
 module _ (text : List ℕ) (sheet : Contents) (read : reading text ≡ accepted sheet) where
-  -- it is judged with the margins of the division
+  -- it is judged with the margins of the division: all that it states is true
   pub own-division-accepted : textJudged (sheetAndDivision sheet) ≡ accepted (divisionOfSheet sheet .margins)
-  unfolding textJudged
   own-division-accepted =
+      let n = sheet .agents in
+      let m = sheet .items in
       let d = divisionOfSheet sheet in
-      let within = reading-withinLimits sheet text read in
-      let divided = answer-with-most (sheet .agents) (sheet .items) (sheet .table) mostGrowths (omega arith) (accepted-counts text sheet read) in
-      ap (λ a. andThen a (λ (c, ts). sheetJudged c ts)) (strictText-at-front sheet within (printedWithoutCutters (sheet .agents) (sheet .items) (sheet .table) d) (length-sheet-and-division sheet mostGrowths d within divided))
-      ∙ own-text-judged sheet mostGrowths d within divided
+      let divided = answer-with-most n m (sheet .table) mostGrowths (omega arith) (accepted-counts text sheet read) in
+      ap (λ behind. textJudged (strictText sheet ++ behind)) (printed-is-stated n m (sheet .table) d)
+      ∙ true-division-accepted sheet (reading-withinLimits sheet text read) (statedBy n m (sheet .table) d)
+      (own-division-shape n m (sheet .table) mostGrowths d divided) (own-division-true n m (sheet .table) mostGrowths d divided)
+      ∙ ap accepted (own-division-margins n m (sheet .table) mostGrowths d divided)
 
   -- "meets no refusal but 10"
   pub own-division-no-refusal-but-10 : (room : ℕ) → judgementFrom (sheetAndDivision sheet) room ≡ filling room (acceptedText (divisionOfSheet sheet .margins))

@@ -6,8 +6,6 @@ use Rattle.lists.specs.Lists.{range}
 use Rattle.text.specs.Bytes.{bytes}
 use Rattle.text.specs.Decimal.{spacedNumbers}
 use Rattle.writing.specs.Fields.{field, group}
-use Rattle.sheet.specs.Valuations.{value}
-use Rattle.bundling.specs.Bundles.{bundle}
 
 -- "The head repeats the counts and adds the grade"
 unfoldable pub headLine : ℕ → ℕ → ℕ → List ℕ
@@ -21,23 +19,23 @@ pileGroup pile = bytes " (pile" ++ spacedNumbers pile ++ bytes ")"
 unfoldable pub amounts : ℕ → ℕ → List ℕ
 amounts worth share = field " (worth " worth ++ field ") (share " share ++ bytes ")"
 
--- bundle (pile) c of a partition of all items: "an empty pile in a cut prints `()`"
-abbrev pub cutBundle : ℕ → List ℕ → ℕ → List ℕ
-cutBundle items partition c = bytes " " ++ group (bundle (range 1 items) partition c)
+-- a pile of a cut: "an empty pile in a cut prints `()`"
+abbrev pub cutPile : List ℕ → List ℕ
+cutPile pile = bytes " " ++ group pile
 
 -- "its cut of all pieces into N piles": "a cut's piles stand in the order of their numbers"
-unfoldable pub cutGroup : ℕ → ℕ → List ℕ → List ℕ
-cutGroup agents items partition = bytes " (cut" ++ flatMap (cutBundle items partition) (range 1 agents) ++ bytes ")"
+unfoldable pub cutGroup : List (List ℕ) → List ℕ
+cutGroup cut = bytes " (cut" ++ flatMap cutPile cut ++ bytes ")"
 
 -- "A yard line has the pieces it gets, their worth by its marks, its share, and its cut of all pieces into N piles"
-unfoldable pub yardLine : ℕ → ℕ → ℕ → List ℕ → List ℕ → ℕ → List ℕ → List ℕ
-yardLine agents items agent marks pile share partition =
-    field "(yard " agent ++ pileGroup pile ++ amounts (value marks pile) share ++ cutGroup agents items partition ++ bytes ")\n"
+unfoldable pub yardLine : ℕ → List ℕ → ℕ → ℕ → List (List ℕ) → List ℕ
+yardLine agent pile worth share cut = field "(yard " agent ++ pileGroup pile ++ amounts worth share ++ cutGroup cut ++ bytes ")\n"
 
 -- "The cutters line has the cutter of each round in turn"
 unfoldable pub cuttersLine : List ℕ → List ℕ
 cuttersLine cutters = bytes "(cutters" ++ spacedNumbers cutters ++ bytes ")\n"
 
--- "the last line is `(end)`, and every printed line ends in one line feed": the head, the line of each agent, the cutters, the end
+-- "the last line is `(end)`, and every printed line ends in one line feed": the head, the line of each agent, the cutters line, which order 5
+-- of document 02 leaves out, and the end
 unfoldable pub allLines : ℕ → ℕ → ℕ → (ℕ → List ℕ) → List ℕ → List ℕ
-allLines agents items grade line cutters = headLine agents items grade ++ flatMap line (range 1 agents) ++ cuttersLine cutters ++ bytes "(end)\n"
+allLines agents items grade line cutters = headLine agents items grade ++ flatMap line (range 1 agents) ++ cutters ++ bytes "(end)\n"

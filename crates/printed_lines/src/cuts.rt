@@ -1,10 +1,10 @@
 // The cut of one agent in its line. Each function returns the place of the byte that comes next.
 ghost use mathlib.Core.List.{flatMap};
 ghost use Prim.Native.Nat.{_≤_};
-ghost use Rattle.lists.specs.Lists.{range};
 ghost use Rattle.sheet.specs.Limits.{mostAgents, mostItems};
 ghost use Rattle.writing.specs.Output.{output, Written};
-ghost use Rattle.printed_lines.specs.PrintedLines.{cutBundle, cutGroup};
+ghost use Rattle.bundling.specs.Bundles.{allBundles};
+ghost use Rattle.printed_lines.specs.PrintedLines.{cutPile, cutGroup};
 use bundling::bundle_of;
 use cut::Partition;
 use sheet::naming::all_items;
@@ -21,7 +21,7 @@ fn put_bundles(
     partition: Partition,
 ) -> usize
     requires { ⌜ (agents ≤ mostAgents) × (items ≤ mostItems) ⌝ }
-    ensures { λ r. ⌜ Written (output (now (buffer .entry)) at) (flatMap (cutBundle items partition) (range 1 agents)) (output (now (buffer .exit)) r) ⌝ }
+    ensures { λ r. ⌜ Written (output (now (buffer .entry)) at) (flatMap cutPile (allBundles agents items partition)) (output (now (buffer .exit)) r) ⌝ }
 {
     let set = all_items(items);
     let mut next = at;
@@ -46,7 +46,7 @@ pub(crate) fn put_cut(
     partition: Partition,
 ) -> usize
     requires { ⌜ (agents ≤ mostAgents) × (items ≤ mostItems) ⌝ }
-    ensures { λ r. ⌜ Written (output (now (buffer .entry)) at) (cutGroup agents items partition) (output (now (buffer .exit)) r) ⌝ }
+    ensures { λ r. ⌜ Written (output (now (buffer .entry)) at) (cutGroup (allBundles agents items partition)) (output (now (buffer .exit)) r) ⌝ }
 {
     let opened = put_bytes(buffer, at, b" (cut");
     let listed = put_bundles(buffer, opened, agents, items, partition);

@@ -2,6 +2,8 @@
 ghost use Prim.Native.Nat.{min};
 ghost use Rattle.sheet.specs.Limits.{mostAgents, mostItems};
 ghost use Rattle.sheet.specs.Sets.{itemsOf};
+ghost use Rattle.sheet.specs.Valuations.{value};
+ghost use Rattle.bundling.specs.Bundles.{allBundles};
 ghost use Rattle.writing.specs.Output.{output, Written};
 ghost use Rattle.printed_lines.specs.PrintedLines.{headLine, pileGroup, amounts, yardLine, cuttersLine};
 ghost use Rattle.printed_lines.specs.BeforeZero.{beforeZero};
@@ -65,7 +67,7 @@ pub fn put_yard(
     share: u64,
     partition: Partition,
 ) -> usize
-    ensures { λ r. ⌜ Written (output (now (buffer .entry)) at) (yardLine (min agents mostAgents) (min items mostItems) agent marks (itemsOf pile) share partition) (output (now (buffer .exit)) r) ⌝ }
+    ensures { λ r. ⌜ Written (output (now (buffer .entry)) at) (yardLine agent (itemsOf pile) (value marks (itemsOf pile)) share (allBundles (min agents mostAgents) (min items mostItems) partition)) (output (now (buffer .exit)) r) ⌝ }
 {
     let yards = lesser(agents, Sheet::AGENTS);
     let pieces = lesser(items, Sheet::ITEMS);

@@ -46,8 +46,8 @@ bracket-number-lexed b n e =
     rw (f .is-decimal) (bracket-word-lexed b (f .head) (f .more) e (digits-are-word-bytes (f .head ∷ f .more) (rw (f .is-decimal) at (decimal-allDigits n))))
 
 -- parts one behind the other, each of which ends as it began
-module _ {begun : Bool} (text : ℕ → List ℕ) (tokensOf : ℕ → List Token) where
-  pub parts-lexed : (ks : List ℕ) → ((k : ℕ) → Mem k ks → Lexes begun (text k) (tokensOf k) begun) → Lexes begun (flatMap text ks) (flatMap tokensOf ks) begun
+module _ {A : Type 0} {begun : Bool} (text : A → List ℕ) (tokensOf : A → List Token) where
+  pub parts-lexed : (ks : List A) → ((k : A) → Mem k ks → Lexes begun (text k) (tokensOf k) begun) → Lexes begun (flatMap text ks) (flatMap tokensOf ks) begun
   unfolding flatMap
   parts-lexed [] each = nothing-lexed
   parts-lexed (k ∷ ks) each = each k (here refl) then parts-lexed ks (λ j m. each j (there m))

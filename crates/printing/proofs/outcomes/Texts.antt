@@ -1,6 +1,6 @@
 -- The text of the outcome of a division is the division's printed text. Assumes nothing.
 use mathlib.Core.Path.{_≡_, ap, _∙_}
-use mathlib.Core.List.{List, [], _++_, map, List·Memᴰ as Mem}
+use mathlib.Core.List.{List, [], map, List·Memᴰ as Mem}
 use mathlib.Core.List.{Sublistᴰ·trans as sublist-trans}
 use Prim.Native.Nat.{ℕ, _-_, _≤_}
 use native.Mathlib.Omega.{arith}
@@ -11,8 +11,7 @@ use Rattle.lists.proofs.ranges.Ranges.{range-bounds, length-range, range-sublis
 use Rattle.lists.proofs.places.Padding.{nth-padded}
 use Rattle.lists.proofs.members.FlatMap.{flatMap-cong}
 use Rattle.lists.proofs.places.Defaults.{getD-default}
-use Rattle.text.specs.Bytes.{bytes}
-use Rattle.writing.specs.Fields.{group}
+use Rattle.lists.proofs.sums.Totals.{map-cong}
 use Rattle.sheet.specs.Limits.{mostAgents, mostItems, setBits}
 use Rattle.sheet.specs.Answers.{accepted}
 use Rattle.sheet.specs.Sets.{itemsOf, setOf}
@@ -21,19 +20,18 @@ use Rattle.cut.specs.Outcome.{placed}
 use Rattle.rounds.specs.Division.{Division}
 use Rattle.shares.specs.Outcome.{cutOf, blankCut}
 use Rattle.division.specs.Outcome.{outcome}
+use Rattle.bundling.specs.Bundles.{bundle, allBundles}
 use Rattle.bundling.proofs.Bundles.{itemsIn-append}
-use Rattle.printing.specs.Printed.{cutBundle, cutGroup, yardLine, allLines, agentLine, printed}
+use Rattle.printing.specs.Printed.{allLines, agentLine, printed}
 use Rattle.printed_division.specs.OutcomeText.{noCut, outcomeLine, outcomeText}
 use Rattle.printing.proofs.printed.Printable.{Printable}
 use Rattle.printed_lines.proofs.BeforeZero.{beforeZero-padded}
 
 -- zeros behind a partition are left out
-cutGroup-padded : (n m : ℕ) (partition : List ℕ) → length partition ≡ m → cutGroup n m (placed partition) ≡ cutGroup n m partition
-unfolding cutGroup
-cutGroup-padded n m partition same =
-    ap (λ t. bytes " (cut" ++ t ++ bytes ")")
-    (flatMap-cong (cutBundle m (placed partition)) (cutBundle m partition) (range 1 n)
-    (λ c mc. ap (λ b. bytes " " ++ group b) (itemsIn-append (eqb c) (range 1 m) partition (zeros (mostItems - length partition)) (omega (arith, length-range 1 m)))))
+allBundles-padded : (n m : ℕ) (partition : List ℕ) → length partition ≡ m → allBundles n m (placed partition) ≡ allBundles n m partition
+allBundles-padded n m partition same =
+    map-cong (bundle (range 1 m) (placed partition)) (bundle (range 1 m) partition) (range 1 n)
+    (λ c mc. itemsIn-append (eqb c) (range 1 m) partition (zeros (mostItems - length partition)) (omega (arith, length-range 1 m)))
 
 module _ (n m : ℕ) (table : List (List ℕ)) (d : Division) (few : m ≤ mostItems) (p : Printable n m d) where
   -- agent i's cut in the array
@@ -55,9 +53,8 @@ module _ (n m : ℕ) (table : List (List ℕ)) (d : Division) (few : m ≤ mostI
 
   outcomeLine-divided : (i : ℕ) → Mem i (range 1 n)
       → let o = outcome (accepted d) in outcomeLine n m table (o .bundles) (o .shares) (o .cuts) i ≡ agentLine n m table d i
-  unfolding yardLine
   outcomeLine-divided i in-use =
-      rw (nth-bundle i in-use, nth-share i in-use, nth-cut i in-use, cutGroup-padded n m (nth [] (d .cuts) i) (p .entry-each i in-use))
+      rw (nth-bundle i in-use, nth-share i in-use, nth-cut i in-use, allBundles-padded n m (nth [] (d .cuts) i) (p .entry-each i in-use))
 
   -- the text of the outcome of a division
   pub outcomeText-divided : outcomeText n m table (d .grade) (outcome (accepted d)) ≡ printed n m table d

@@ -25,11 +25,11 @@ use Rattle.printing.proofs.printed.Lengths.{length-printed}
 
 -- "six rows of twelve places", each mark at most the greatest: the worths and shares of the division of every such table
 module _ (n m : ℕ) (table : List (List ℕ)) (some : 1 ≤ n) (few-items : m ≤ mostItems) (small : (i k : ℕ) → itemValue (valuation table i) k ≤ greatestMark) where
-  pub divisionByRounds-worth-small : (i : ℕ) → Mem i (range 1 n) → value (valuation table i) (nth [] (divisionByRounds n m table .bundles) i) < 10 ^ sumDigits
+  divisionByRounds-worth-small : (i : ℕ) → Mem i (range 1 n) → value (valuation table i) (nth [] (divisionByRounds n m table .bundles) i) < 10 ^ sumDigits
   divisionByRounds-worth-small i in-use =
       omega (arith, value-small m (valuation table i) (divisionByRounds-printable n m table some .of-items i in-use) few-items (small i))
 
-  pub divisionByRounds-share-small : (i : ℕ) → Mem i (range 1 n) → nth 0 (divisionByRounds n m table .shares) i < 10 ^ sumDigits
+  divisionByRounds-share-small : (i : ℕ) → Mem i (range 1 n) → nth 0 (divisionByRounds n m table .shares) i < 10 ^ sumDigits
   unfolding divisionOf
   divisionByRounds-share-small i in-use =
       rw (nth-shares n m table in-use) (omega (arith, share-small n m (valuation table i) some few-items (λ k. omega (arith, nth-next 0 (valuation table i) k, small i (k + 1)))))

@@ -10,16 +10,20 @@ use Rattle.sheet.specs.Listed.{numbered}
 use Rattle.sheet.proofs.sets.AllItems.{items-of-all}
 use Rattle.sheet.proofs.listing.Listed.{listed-is, count-listed, count-places}
 use Rattle.bundling.specs.Bundles.{bundle}
-use Rattle.printed_lines.specs.PrintedLines.{cutBundle}
+use Rattle.printed_lines.specs.PrintedLines.{cutPile}
 use Rattle.writing.specs.Output.{output, Written}
 use Rattle.writing.proofs.Written.{nothing, _then_}
-use Rattle.lists.proofs.members.FlatMap.{flatMap-next}
+use Rattle.lists.proofs.members.FlatMap.{flatMap-next, flatMap-map}
 use Rattle.printed_lines.proofs.cuts.put_bundles.Statement.{statement}
 use Rattle.printed_lines.proofs.cuts.put_bundles.Tie as tie
 
+-- the text of each bundle
+abbrev bundleText : ℕ → List ℕ → ℕ → List ℕ
+bundleText items partition c = cutPile (bundle (range 1 items) partition c)
+
 abbrev Inv-loop : tie.InvT-loop
 Inv-loop buffer₀ at agents items partition set next₀ i₀ buffer next i =
-    (i ≤ agents) × (length buffer ≡ length buffer₀) × Written (output buffer₀ at) (flatMap (cutBundle items partition) (range 1 i)) (output buffer next)
+    (i ≤ agents) × (length buffer ≡ length buffer₀) × Written (output buffer₀ at) (flatMap (bundleText items partition) (range 1 i)) (output buffer next)
 
 abbrev μ-loop : tie.MeasureT-loop
 μ-loop buffer₀ at agents items partition set next₀ i₀ buffer next i = agents - i
@@ -78,7 +82,7 @@ loop-again c =
     let a = at-bundle .before .before .before .before .before .args in (
       omega arith,
       at-group .put-group .kept .0 ∙ at-space .put .kept .0 ∙ l .inv .1,
-      rw (flatMap-next (cutBundle (a .items) (a .partition)) (l .i)) (l .inv .2 then (at-space .put .ensures then rw (listed-is (next-bundle at-bundle) (bundle-is at-bundle)) at (at-group .put-group .ensures))),
+      rw (flatMap-next (bundleText (a .items) (a .partition)) (l .i)) (l .inv .2 then (at-space .put .ensures then rw (listed-is (next-bundle at-bundle) (bundle-is at-bundle)) at (at-group .put-group .ensures))),
     )
 
 same-length : tie.Need-same-length Inv-loop μ-loop
@@ -87,8 +91,9 @@ same-length c = c .before .loop .inv .1
 returns : tie.Need-returns Inv-loop μ-loop
 returns c =
     let l = c .before .loop in
-    let all : l .i ≡ c .before .before .before .before .args .agents = omega arith in
-    rw all at (l .inv .2)
+    let a = c .before .before .before .before .args in
+    let all : l .i ≡ a .agents = omega arith in
+    rw (flatMap-map cutPile (bundle (range 1 (a .items)) (a .partition)) (range 1 (a .agents))) (rw all at (l .inv .2))
 
 pub put-bundles-spec : {M : Type 1} → statement M
 put-bundles-spec =

@@ -1,4 +1,4 @@
--- The tokens of a division's lines: what the laws of the printed division go through. Assumes nothing: these are definitions.
+-- The tokens of a division's lines: what the laws of its text go through. Assumes nothing: these are definitions.
 use mathlib.Core.List.{List, [], _∷_, _++_, map, flatMap}
 use Prim.Native.Nat.{ℕ}
 use Prim.Native.String.{String}
@@ -8,6 +8,8 @@ use Rattle.tokens.specs.Tokens.{Token}
 use Rattle.lexing.specs.Forms.{form}
 use Rattle.sheet_lines.specs.SheetForms.{beforeItems, beforeTurn, lineEnd, lastLine}
 use Rattle.division_reading.specs.DivisionForms.{beforeCounts, beforeGrade, beforePile, beforeWorth, beforeShare, beforeCut, beforeCutPile, pileEnd}
+use Rattle.division_reading.specs.Stated.{StatedLine, Stated}
+use Rattle.stated_truth.specs.Truth.{lineOf}
 
 -- a form and a number behind it
 abbrev pub fieldTokens : String → ℕ → List Token
@@ -24,15 +26,15 @@ bundleTokens before bundle = form before ++ map decimal bundle ++ form pileEnd
 unfoldable pub amountsTokens : ℕ → ℕ → List Token
 amountsTokens worth share = fieldTokens beforeWorth worth ++ fieldTokens beforeShare share ++ form beforeCut
 
--- the bundles of a cut, the c-th of them `cut c`
-unfoldable pub cutTokens : ℕ → (ℕ → List ℕ) → List Token
-cutTokens agents cut = flatMap (λ c. bundleTokens beforeCutPile (cut c)) (range 1 agents)
+-- the bundles of a cut
+unfoldable pub cutTokens : List (List ℕ) → List Token
+cutTokens cut = flatMap (bundleTokens beforeCutPile) cut
 
 -- the tokens of a yard line
-unfoldable pub lineTokens : ℕ → ℕ → List ℕ → ℕ → ℕ → (ℕ → List ℕ) → List Token
-lineTokens agents turn bundle worth share cut =
-    fieldTokens beforeTurn turn ++ bundleTokens beforePile bundle ++ amountsTokens worth share ++ cutTokens agents cut ++ form lineEnd
+unfoldable pub lineTokens : ℕ → StatedLine → List Token
+lineTokens turn l =
+    fieldTokens beforeTurn turn ++ bundleTokens beforePile (l .bundle) ++ amountsTokens (l .worth) (l .share) ++ cutTokens (l .cut) ++ form lineEnd
 
--- the tokens of a division, the i-th of its lines `line i`
-unfoldable pub divisionTokens : ℕ → ℕ → ℕ → (ℕ → List Token) → List Token
-divisionTokens agents items grade line = headTokens agents items grade ++ flatMap line (range 1 agents) ++ form lastLine
+-- the tokens of a division
+unfoldable pub divisionTokens : ℕ → ℕ → Stated → List Token
+divisionTokens agents items d = headTokens agents items (d .grade) ++ flatMap (λ i. lineTokens i (lineOf d i)) (range 1 agents) ++ form lastLine

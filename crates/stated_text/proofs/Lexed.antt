@@ -1,9 +1,9 @@
--- The tokens of a printed division without its cutters line, line by line. Assumes nothing.
+-- The tokens of the text of what a division states, line by line. Assumes nothing.
 use mathlib.Core.Path.{_≡_, refl, subst}
-use mathlib.Core.List.{List, [], _∷_, _++_, flatMap, append-assoc}
+use mathlib.Core.List.{List, [], _∷_, _++_, flatMap, append-nil, append-assoc}
 use mathlib.Core.Bool.{Bool, true, false}
 use Prim.Native.Nat.{ℕ}
-use Rattle.lists.specs.Lists.{range, nth}
+use Rattle.lists.specs.Lists.{range}
 use Rattle.text.specs.Bytes.{bytes}
 use Rattle.text.specs.Decimal.{decimal, spacedNumber}
 use Rattle.tokens.specs.Lines.{space, lines, onFirst, beforeRemark}
@@ -14,13 +14,12 @@ use Rattle.lexing.proofs.texts.Numbers.{number-lexed, numbers-lexed, bracket-nu
 use Rattle.writing.specs.Fields.{field, group}
 use Rattle.sheet_lines.specs.SheetForms.{beforeItems, beforeTurn, lineEnd}
 use Rattle.strict_text.proofs.SheetLexed.{line-end-lexed, last-line-lexed}
-use Rattle.sheet.specs.Valuations.{value}
-use Rattle.sheet.specs.Tables.{valuation}
-use Rattle.bundling.specs.Bundles.{bundle}
-use Rattle.rounds.specs.Division.{Division}
-use Rattle.printing.specs.Printed.{headLine, pileGroup, amounts, cutBundle, cutGroup, yardLine, agentLine, printedWithoutCutters}
+use Rattle.printed_lines.specs.PrintedLines.{headLine, pileGroup, amounts, cutPile, cutGroup, yardLine, allLines}
 use Rattle.division_reading.specs.DivisionForms.{beforeCounts, beforeGrade, beforePile, beforeWorth, beforeShare, beforeCut, beforeCutPile, pileEnd}
-use Rattle.own_divisions.proofs.DivisionTokens.{fieldTokens, headTokens, bundleTokens, amountsTokens, cutTokens, lineTokens, divisionTokens}
+use Rattle.division_reading.specs.Stated.{StatedLine, Stated}
+use Rattle.stated_truth.specs.Truth.{lineOf}
+use Rattle.stated_text.specs.StatedText.{lineText, statedText}
+use Rattle.stated_text.proofs.DivisionTokens.{fieldTokens, headTokens, bundleTokens, amountsTokens, cutTokens, lineTokens, divisionTokens}
 
 -- a text that begins with a bracket and goes on without a remark on its line, and a number behind it
 field-lexed : {begun : Bool} (b : ℕ) (x : List ℕ) (n : ℕ) → isBracket b ≡ true → noRemark x ≡ true → begunAfter true x ≡ true
@@ -65,12 +64,11 @@ amounts-lexed worth share =
     let share-lexed : Lexes true (field ") (share " share) (fieldTokens beforeShare share) true = field-lexed closing (bytes " (share") share refl refl refl in
     worth-lexed then share-lexed then closing-lexed
 
-cut-lexed : (agents items : ℕ) (partition : List ℕ)
-    → Lexes true (cutGroup agents items partition) (form "(cut" ++ cutTokens agents (bundle (range 1 items) partition) ++ form pileEnd) true
+cut-lexed : (cut : List (List ℕ)) → Lexes true (cutGroup cut) (form "(cut" ++ cutTokens cut ++ form pileEnd) true
 unfolding cutGroup cutTokens begunAfter
-cut-lexed agents items partition =
+cut-lexed cut =
     spaced-lexed (bracketed-lexed opening (bytes "cut") refl refl)
-    then parts-lexed (cutBundle items partition) (λ c. bundleTokens beforeCutPile (bundle (range 1 items) partition c)) (range 1 agents) (λ c m. group-lexed (bundle (range 1 items) partition c))
+    then parts-lexed cutPile (bundleTokens beforeCutPile) cut (λ pile m. group-lexed pile)
     then closing-lexed
 
 -- brackets of one part and of the next, in one form
@@ -83,36 +81,29 @@ unfolding tokens tokensOfLine words extended lines onFirst beforeRemark flatMap
 line-end-form = refl
 
 -- the parts of a yard line as they are printed, and as they are read
-line-parts : (agents turn : ℕ) (pile : List ℕ) (worth share : ℕ) (cut : ℕ → List ℕ)
-    → fieldTokens beforeTurn turn ++ bundleTokens beforePile pile ++ (fieldTokens beforeWorth worth ++ fieldTokens beforeShare share ++ form pileEnd)
-    ++ (form "(cut" ++ cutTokens agents cut ++ form pileEnd) ++ form ")\n"
-    ≡ lineTokens agents turn pile worth share cut
+line-parts : (turn : ℕ) (l : StatedLine)
+    → fieldTokens beforeTurn turn ++ bundleTokens beforePile (l .bundle) ++ (fieldTokens beforeWorth (l .worth) ++ fieldTokens beforeShare (l .share) ++ form pileEnd)
+    ++ (form "(cut" ++ cutTokens (l .cut) ++ form pileEnd) ++ form ")\n"
+    ≡ lineTokens turn l
 unfolding lineTokens amountsTokens
-line-parts agents turn pile worth share cut = simp (append-assoc, cut-form, line-end-form)
+line-parts turn l = simp (append-assoc, cut-form, line-end-form)
 
-line-lexed : (agents items agent : ℕ) (marks pile : List ℕ) (share : ℕ) (partition : List ℕ)
-    → Lexes false (yardLine agents items agent marks pile share partition) (lineTokens agents agent pile (value marks pile) share (bundle (range 1 items) partition)) false
+line-lexed : (agent : ℕ) (l : StatedLine) → Lexes false (lineText agent l) (lineTokens agent l) false
 unfolding yardLine begunAfter
-line-lexed agents items agent marks pile share partition =
+line-lexed agent l =
     let agent-lexed : Lexes false (field "(yard " agent) (fieldTokens beforeTurn agent) true = field-lexed opening (bytes "yard") agent refl refl refl in
     let last-lexed : Lexes true (bytes ")\n") (form ")\n") false = bracketed-lexed closing (bytes "\n") refl refl in
-    subst (λ ts. Lexes false (yardLine agents items agent marks pile share partition) ts false)
-    (line-parts agents agent pile (value marks pile) share (bundle (range 1 items) partition))
-    (agent-lexed then pile-lexed pile then amounts-lexed (value marks pile) share then cut-lexed agents items partition then last-lexed)
+    subst (λ ts. Lexes false (lineText agent l) ts false) (line-parts agent l)
+    (agent-lexed then pile-lexed (l .bundle) then amounts-lexed (l .worth) (l .share) then cut-lexed (l .cut) then last-lexed)
 
--- the tokens of agent i's line
-abbrev pub agentTokens : ℕ → ℕ → List (List ℕ) → Division → ℕ → List Token
-agentTokens agents items table d i =
-    lineTokens agents i (nth [] (d .bundles) i) (value (valuation table i) (nth [] (d .bundles) i)) (nth 0 (d .shares) i) (bundle (range 1 items) (nth [] (d .cuts) i))
-
-module _ (agents items : ℕ) (table : List (List ℕ)) (d : Division) where
-  division-lexed : Lexes false (printedWithoutCutters agents items table d) (divisionTokens agents items (d .grade) (agentTokens agents items table d)) false
-  unfolding printedWithoutCutters divisionTokens
+module _ (agents items : ℕ) (d : Stated) where
+  division-lexed : Lexes false (statedText agents items d) (divisionTokens agents items d) false
+  unfolding statedText allLines divisionTokens
   division-lexed =
-      head-lexed agents items (d .grade)
-      then parts-lexed (agentLine agents items table d) (agentTokens agents items table d) (range 1 agents)
-      (λ i m. line-lexed agents items i (valuation table i) (nth [] (d .bundles) i) (nth 0 (d .shares) i) (nth [] (d .cuts) i))
-      then last-line-lexed
+      rw append-nil
+      (head-lexed agents items (d .grade)
+      then parts-lexed (λ i. lineText i (lineOf d i)) (λ i. lineTokens i (lineOf d i)) (range 1 agents) (λ i m. line-lexed i (lineOf d i))
+      then last-line-lexed)
 
-  pub tokens-printedWithoutCutters : tokens (printedWithoutCutters agents items table d) ≡ divisionTokens agents items (d .grade) (agentTokens agents items table d)
-  tokens-printedWithoutCutters = lexed-tokens division-lexed
+  pub tokens-statedText : tokens (statedText agents items d) ≡ divisionTokens agents items d
+  tokens-statedText = lexed-tokens division-lexed

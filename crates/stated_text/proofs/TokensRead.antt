@@ -4,28 +4,30 @@ use mathlib.Core.List.{List, [], _∷_, _++_, map, flatMap, append-assoc, append
 use mathlib.Core.List.{Sublistᴰ as Sublist}
 use mathlib.Core.Option.{some}
 use mathlib.Core.Bool.{false}
-use Prim.Native.Nat.{ℕ, _^_, _≤_, _<_}
+use Prim.Native.Nat.{ℕ, _+_, _^_, _≤_, _<_}
 use Prim.Native.String.{String}
 use native.Mathlib.Omega.{arith}
+use lib.ListN.{length}
 use borrow.Author.Tests.{lt-ltb, le-leb}
 use Rattle.lists.specs.Lists.{range, Rising}
-use Rattle.lists.proofs.ranges.Ranges.{range-bounds}
+use Rattle.lists.proofs.ranges.Ranges.{range-bounds, map-nth-range}
 use Rattle.lists.proofs.ranges.RangeSublists.{range-sublist-rising}
 use Rattle.lists.proofs.members.Counting.{sublist-mem}
 use Rattle.text.specs.Decimal.{decimal}
 use Rattle.sheet.specs.Limits.{mostAgents, mostItems, countDigits, sumDigits}
 use Rattle.tokens.specs.Lines.{lines, onFirst, beforeRemark}
 use Rattle.tokens.specs.Tokens.{Token, closing, extended, words, lineTokens as tokensOfLine, tokens}
-use Rattle.lexing.specs.Forms.{ended, follow, form}
+use Rattle.lexing.specs.Forms.{ended, follow, form, inTurn}
 use Rattle.lexing.specs.Numbers.{isNumber}
 use Rattle.numerals.proofs.DecimalDigits.{decimal-value, decimal-isNumber}
 use Rattle.lexing.proofs.readers.Written.{follow-append, numberAfter-decimal, followNumber-decimal, inTurn-range}
 use Rattle.sheet_lines.specs.SheetForms.{beforeItems, beforeTurn, lineEnd, lastLine}
 use Rattle.sheet_lines.specs.Grammar.{endLine}
 use Rattle.division_reading.specs.DivisionForms.{beforeCounts, beforeGrade, beforePile, beforeWorth, beforeShare, beforeCut, beforeCutPile, pileEnd}
-use Rattle.division_reading.specs.Stated.{StatedLine}
+use Rattle.division_reading.specs.Stated.{StatedLine, Stated}
 use Rattle.division_reading.specs.Grammar.{gradeDigits, risingItems, bundleAfter, bundleInTurn, amounts, cutBundles, yardLine, head, divisionText}
-use Rattle.own_divisions.proofs.DivisionTokens.{headTokens, bundleTokens, amountsTokens, cutTokens, lineTokens, divisionTokens}
+use Rattle.stated_truth.specs.Truth.{noneStated, lineOf}
+use Rattle.stated_text.proofs.DivisionTokens.{headTokens, bundleTokens, amountsTokens, cutTokens, lineTokens, divisionTokens}
 
 -- the bracket behind the items of a bundle, which is no number
 closing-form : form pileEnd ≡ (closing ∷ []) ∷ []
@@ -67,12 +69,13 @@ module _ (items : ℕ) (few-items : items ≤ mostItems) where
   unfolding bundleInTurn
   bundleInTurn-tokens turn ts h s = rw (followNumber-decimal countDigits turn (omega arith) h (form beforeTurn)) (bundleAfter-bundleTokens beforePile ts s)
 
-  cutBundles-cutTokens : (agents : ℕ) (cut : ℕ → List ℕ) (ts : List Token) → ((c : ℕ) → Sublist (cut c) (range 1 items))
-      → cutBundles agents items (cutTokens agents cut ++ ts) ≡ some (map cut (range 1 agents), ts)
-  unfolding cutTokens
-  cutBundles-cutTokens agents cut ts s =
-      inTurn-range (λ number. bundleAfter (form beforeCutPile) items) cut (λ c. bundleTokens beforeCutPile (cut c)) 1 agents ts
-      (λ c m us. bundleAfter-bundleTokens beforeCutPile us (s c))
+  -- the bundles of a cut, one after another
+  cutBundles-cutTokens : (turn : ℕ) (cut : List (List ℕ)) (ts : List Token) → ((b : List ℕ) → Mem b cut → Sublist b (range 1 items))
+      → inTurn (λ number. bundleAfter (form beforeCutPile) items) turn (length cut) (cutTokens cut ++ ts) ≡ some (cut, ts)
+  unfolding inTurn cutTokens flatMap
+  cutBundles-cutTokens turn [] ts s = refl
+  cutBundles-cutTokens turn (b ∷ cut) ts s =
+      simp append-assoc (rw (bundleAfter-bundleTokens beforeCutPile _ (s b (here refl)), cutBundles-cutTokens (turn + 1) cut ts (λ c m. s c (there m))))
 
 amounts-amountsTokens : (worth share : ℕ) (ts : List Token) → worth < 10 ^ sumDigits → share < 10 ^ sumDigits
     → amounts (amountsTokens worth share ++ ts) ≡ some (worth, share, ts)
@@ -82,22 +85,22 @@ amounts-amountsTokens worth share ts small small-share =
     (rw (numberAfter-decimal sumDigits worth (omega arith) small (form beforeWorth), numberAfter-decimal sumDigits share (omega arith) small-share (form beforeShare), follow-append (form beforeCut) ts))
 
 -- a yard line that can be read: its bundle and those of its cut are of the items, its sums have at most so many digits
-pub record ReadableLine (items : ℕ) (bundle : List ℕ) (worth share : ℕ) (cut : ℕ → List ℕ) : Type 0 where
-  pub of-items : Sublist bundle (range 1 items)
-  pub worth-small : worth < 10 ^ sumDigits
-  pub share-small : share < 10 ^ sumDigits
-  pub cut-of-items : (c : ℕ) → Sublist (cut c) (range 1 items)
+pub record ReadableLine (agents items : ℕ) (l : StatedLine) : Type 0 where
+  pub of-items : Sublist (l .bundle) (range 1 items)
+  pub worth-small : l .worth < 10 ^ sumDigits
+  pub share-small : l .share < 10 ^ sumDigits
+  pub cut-each : length (l .cut) ≡ agents
+  pub cut-of-items : (b : List ℕ) → Mem b (l .cut) → Sublist b (range 1 items)
 
 module _ (agents items : ℕ) (few : agents ≤ mostAgents) (few-items : items ≤ mostItems) where
-  abbrev lineOf : List ℕ → ℕ → ℕ → (ℕ → List ℕ) → StatedLine
-  lineOf bundle worth share cut = record { bundle = bundle; worth = worth; share = share; cut = map cut (range 1 agents) }
-
-  yardLine-lineTokens : (turn : ℕ) {bundle : List ℕ} {worth share : ℕ} {cut : ℕ → List ℕ} (ts : List Token) → turn < 10 ^ countDigits → ReadableLine items bundle worth share cut
-      → yardLine agents items turn (lineTokens agents turn bundle worth share cut ++ ts) ≡ some (lineOf bundle worth share cut, ts)
+  yardLine-lineTokens : (turn : ℕ) {l : StatedLine} (ts : List Token) → turn < 10 ^ countDigits → ReadableLine agents items l
+      → yardLine agents items turn (lineTokens turn l ++ ts) ≡ some (l, ts)
   unfolding yardLine lineTokens
-  yardLine-lineTokens turn {bundle} {worth} {share} {cut} ts h p =
+  yardLine-lineTokens turn {l} ts h p =
+      let cut-read : (us : List Token) → cutBundles agents items (cutTokens (l .cut) ++ us) ≡ some (l .cut, us) =
+      λ us. rw (p .cut-each) at (cutBundles-cutTokens items few-items 1 (l .cut) us (p .cut-of-items)) in
       simp append-assoc
-      (rw (bundleInTurn-tokens items few-items turn _ h (p .of-items), amounts-amountsTokens worth share _ (p .worth-small) (p .share-small), cutBundles-cutTokens items few-items agents cut _ (p .cut-of-items), follow-append (form lineEnd) ts))
+      (rw (bundleInTurn-tokens items few-items turn _ h (p .of-items), amounts-amountsTokens (l .worth) (l .share) _ (p .worth-small) (p .share-small), cut-read _, follow-append (form lineEnd) ts))
 
   head-headTokens : (grade : ℕ) (ts : List Token) → grade < 10 ^ gradeDigits → head agents items (headTokens agents items grade ++ ts) ≡ some (grade, ts)
   unfolding head headTokens
@@ -105,14 +108,12 @@ module _ (agents items : ℕ) (few : agents ≤ mostAgents) (few-items : items �
       simp append-assoc
       (rw (followNumber-decimal countDigits agents (omega arith) (omega arith) (form beforeCounts), followNumber-decimal countDigits items (omega arith) (omega arith) (form beforeItems), numberAfter-decimal gradeDigits grade (omega arith) small (form beforeGrade), follow-append (form lineEnd) ts))
 
-  -- a division of such lines: agent i's line has bundle i, worth i, ..
-  module _ (grade : ℕ) (bundle : ℕ → List ℕ) (worth share : ℕ → ℕ) (cut : ℕ → ℕ → List ℕ) where
-    pub divisionText-divisionTokens : grade < 10 ^ gradeDigits → ((i : ℕ) → Mem i (range 1 agents) → ReadableLine items (bundle i) (worth i) (share i) (cut i))
-        → divisionText agents items (divisionTokens agents items grade (λ i. lineTokens agents i (bundle i) (worth i) (share i) (cut i)))
-        ≡ some (record { grade = grade; lines = map (λ i. lineOf (bundle i) (worth i) (share i) (cut i)) (range 1 agents) })
-    unfolding divisionText divisionTokens
-    divisionText-divisionTokens small readable =
-        let lines-read =
-        inTurn-range (yardLine agents items) (λ i. lineOf (bundle i) (worth i) (share i) (cut i)) (λ i. lineTokens agents i (bundle i) (worth i) (share i) (cut i)) 1 agents (form lastLine)
-        (λ i m us. let b = range-bounds 1 agents m in yardLine-lineTokens i us (omega arith) (readable i m)) in
-        simp append-assoc (rw (head-headTokens grade _ small, lines-read, endLine-form))
+  -- a division of such lines, one for each agent
+  pub divisionText-divisionTokens : (d : Stated) → length (d .lines) ≡ agents → d .grade < 10 ^ gradeDigits
+      → ((i : ℕ) → Mem i (range 1 agents) → ReadableLine agents items (lineOf d i)) → divisionText agents items (divisionTokens agents items d) ≡ some d
+  unfolding divisionText divisionTokens
+  divisionText-divisionTokens d line-each small readable =
+      let lines-read =
+      inTurn-range (yardLine agents items) (lineOf d) (λ i. lineTokens i (lineOf d i)) 1 agents (form lastLine)
+      (λ i m us. let b = range-bounds 1 agents m in yardLine-lineTokens i us (omega arith) (readable i m)) in
+      simp append-assoc (rw (head-headTokens (d .grade) _ small, lines-read, endLine-form, map-nth-range noneStated (d .lines) agents line-each))

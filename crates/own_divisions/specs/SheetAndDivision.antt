@@ -1,0 +1,11 @@
+-- The text of a sheet and of the box's division of it, as it is judged. Assumes nothing: these are definitions.
+use mathlib.Core.List.{List, _++_}
+use Prim.Native.Nat.{ℕ}
+use Rattle.reading.specs.Reading.{Contents}
+use Rattle.strict_text.specs.StrictText.{strictText}
+use Rattle.printing.specs.Printed.{printedWithoutCutters}
+use Rattle.sheet_to_division.specs.PrintedDivision.{divisionOfSheet}
+
+-- "Behind its strict sheet and without its cutters line, a division the box prints" (document 02, order 5)
+abbrev pub sheetAndDivision : Contents → List ℕ
+sheetAndDivision sheet = strictText sheet ++ printedWithoutCutters (sheet .agents) (sheet .items) (sheet .table) (divisionOfSheet sheet)

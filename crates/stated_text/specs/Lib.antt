@@ -1,0 +1,2 @@
+-- The text of what a division states.
+pub mod StatedText
