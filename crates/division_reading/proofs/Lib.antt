@@ -1,4 +1,5 @@
--- Laws of the definitions: what is kept of what is read, what a division that is read has, and samples by computation.
+-- Laws of the definitions: what is kept of what is read, what the bundles and a division that are read have, and samples by computation.
 pub mod kept
+pub mod Bundles
 pub mod Shape
 pub mod Samples

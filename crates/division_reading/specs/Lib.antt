@@ -2,6 +2,7 @@
 -- functions cite; no public contract does.
 pub mod DivisionForms
 pub mod Stated
+pub mod Shape
 pub mod Grammar
 pub mod Outcome
 pub mod internal

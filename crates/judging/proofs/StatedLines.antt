@@ -1,6 +1,6 @@
 -- What the code's lines state, line by line and place by place. Assumes nothing.
 use mathlib.Core.Path.{_≡_, sym, ap, ap₂, _∙_}
-use mathlib.Core.Bool.{_&&_}
+use mathlib.Core.Bool.{Bool, _&&_}
 use mathlib.Core.List.{List, [], map, map-map, List·Memᴰ as Mem}
 use Prim.Native.Nat.{ℕ, _-_, _≤_}
 use native.Mathlib.Omega.{arith}
@@ -16,14 +16,9 @@ use Rattle.sheet.specs.Limits.{mostAgents}
 use Rattle.sheet.specs.Sets.{itemsOf}
 use Rattle.shares.specs.Shares.{shareOf}
 use Rattle.grades.specs.Scale.{gradeByTable}
-use Rattle.division_reading.specs.Stated.{Stated}
 use Rattle.division_reading.specs.declared.StatedLine as line
-use Rattle.stated_truth.specs.Truth.{bundlesOf, lineOf, noneStated, eachInOne, eachInOneOfAll, lineTrue, figuresTrue}
-use Rattle.stated_truth.specs.Lines.{noLine, statedLine, cutsInOne, allInOne, linesTrue, figuresTrueBy}
-
--- what the first n lines state, with the grade
-abbrev pub statedOf : ℕ → ℕ → List line.StatedLine → Stated
-statedOf n grade lines = record { grade = grade; lines = map (statedLine n) (take n lines) }
+use Rattle.stated_truth.specs.Truth.{bundlesOf, lineOf, noneStated, bundlesAndCuts, lineTrue, figuresTrue}
+use Rattle.stated_truth.specs.Lines.{noLine, statedLine, statedOf, cutsPass, setsAndCuts, linesTrue, figuresTrueBy}
 
 -- the bundles of the lines as sets
 abbrev pub setsOf : List line.StatedLine → List ℕ
@@ -54,17 +49,17 @@ module _ (n grade : ℕ) (lines : List line.StatedLine) where
         ∙ List·getD-map (statedLine n) (take n lines) (i - 1) noLine
         ∙ ap (statedLine n) (getD-take n lines (i - 1) noLine (omega arith))
 
-    -- the cuts
-    cuts-stated : (m : ℕ) → all (λ l. eachInOne m (l .cut)) (statedOf n grade lines .lines) ≡ cutsInOne n m lines
-    cuts-stated m =
-        let d = statedOf n grade lines in
-        all-nth (λ l. eachInOne m (l .cut)) noneStated (d .lines) n length-stated
-        ∙ all-cong _ _ (range 1 n) (λ i mi. ap (λ l. eachInOne m (l .cut)) (lineOf-stated mi))
+    -- a test of the bundles and the cuts
+    module _ (test : List (List ℕ) → Bool) where
+      cuts-stated : all (λ l. test (l .cut)) (statedOf n grade lines .lines) ≡ cutsPass n test lines
+      cuts-stated =
+          let d = statedOf n grade lines in
+          all-nth (λ l. test (l .cut)) noneStated (d .lines) n length-stated
+          ∙ all-cong _ _ (range 1 n) (λ i mi. ap (λ l. test (l .cut)) (lineOf-stated mi))
 
-    -- the test of refusal 12
-    pub in-one-stated : (m : ℕ) → eachInOneOfAll m (statedOf n grade lines) ≡ allInOne n m (setsOf lines) lines
-    unfolding eachInOneOfAll
-    in-one-stated m = ap₂ _&&_ (ap (eachInOne m) bundles-stated) (cuts-stated m)
+      pub test-stated : bundlesAndCuts test (statedOf n grade lines) ≡ setsAndCuts n test (setsOf lines) lines
+      unfolding bundlesAndCuts
+      test-stated = ap₂ _&&_ (ap test bundles-stated) cuts-stated
 
     -- the worths, the shares and the cuts, by the shares of the table
     lines-stated : (m : ℕ) (table : List (List ℕ)) (shares : List ℕ) → ((i : ℕ) → Mem i (range 1 n) → nth 0 shares i ≡ shareOf n m table i)

@@ -1,11 +1,13 @@
 // Judging a division that others bring: the refusal's number, or that all it states is true, with the margin of each agent.
 ghost use mathlib.Core.Path.{_≡_};
+ghost use mathlib.Core.Bool.{_&&_};
 ghost use mathlib.Core.List.{map};
 ghost use lib.ListN.{length};
 ghost use Rattle.sheet.specs.Limits.{mostAgents};
 ghost use Rattle.sheet.specs.Answers.{refused};
-ghost use Rattle.stated_truth.specs.Judging.{judging, judgingShared};
-ghost use Rattle.judging.specs.Outcome.{outcome, statedIn};
+ghost use Rattle.stated_truth.specs.Judging.{judging};
+ghost use Rattle.stated_truth.specs.Lines.{statedIn};
+ghost use Rattle.judging.specs.Outcome.{outcome};
 ghost use Rattle.judging.specs.internal.Shared.{SharesIn};
 use division_reading::Stated;
 use division_reading::StatedLine;
@@ -19,7 +21,8 @@ use sheet::Sheet;
 use sheet::Table;
 use sheet::amounts::Amounts;
 use stated_figures::figures_true;
-use stated_items::all_in_one;
+use stated_items::Test;
+use stated_items::all_pass;
 
 // The number of the reason why the division is refused, or that it is accepted.
 pub enum Answer {
@@ -57,6 +60,13 @@ fn bundles_of(lines: [StatedLine; Sheet::AGENTS]) -> Sets
     bundles
 }
 
+// Whether both hold.
+fn both(a: bool, b: bool) -> bool
+    ensures { λ r. ⌜ r ≡ a && b ⌝ }
+{
+    if a { b } else { false }
+}
+
 // The answer on a division of a table that is not refused, by the shares of its agents.
 fn judge_shared(
     table: Table,
@@ -66,7 +76,7 @@ fn judge_shared(
     stated: Stated,
 ) -> Outcome
     requires { ⌜ SharesIn agents items table shares ⌝ }
-    ensures { λ r. ⌜ r ≡ outcome (judgingShared agents items table (statedIn agents stated)) ⌝ }
+    ensures { λ r. ⌜ r ≡ outcome (judging agents items table (statedIn agents stated)) ⌝ }
 {
     let read = stated.read;
     let lines = stated.lines;
@@ -74,9 +84,10 @@ fn judge_shared(
     let worths = worths_of(table, agents, items, bundles);
     let margins = margins_of(agents, worths, shares);
     let grade = grade_of(table, agents, items, shares, margins, bundles);
-    let once = all_in_one(bundles, lines, agents, items);
+    let named = all_pass(Test::OfSheet, bundles, lines, agents, items);
+    let once = all_pass(Test::EachInOne, bundles, lines, agents, items);
     let correct = figures_true(table, agents, items, shares, lines, grade, stated.grade);
-    if !read {
+    if !both(read, named) {
         return refuse(11);
     }
     if !once {
@@ -92,8 +103,8 @@ fn judge_shared(
 }
 
 // The answer on a division of a table of marks with these counts. Refused as the table's shares are; else with 11 where the division is
-// not read, with 12 where an item is in no bundle or in two, of the division or of a cut, and with 13 where a worth, a share, a cut or
-// the grade is false.
+// not read or names an item that is not on the sheet, with 12 where an item is in no bundle or in two, of the division or of a cut, and
+// with 13 where a worth, a share, a cut or the grade is false.
 pub fn judge(table: Table, agents: usize, items: usize, stated: Stated) -> Outcome
     ensures { λ r. ⌜ r ≡ outcome (judging agents items table (statedIn agents stated)) ⌝ }
 {

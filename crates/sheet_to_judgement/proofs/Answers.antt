@@ -19,11 +19,11 @@ use Rattle.grades.specs.Grade.{ownValues}
 use Rattle.grades.specs.Scale.{sharesOf}
 use Rattle.division_reading.specs.Stated.{Stated}
 use Rattle.stated_truth.specs.Truth.{bundlesOf}
-use Rattle.stated_truth.specs.Judging.{judging}
+use Rattle.stated_truth.specs.Judging.{judging, TrueDivision}
 use Rattle.judging.specs.Outcome.{outcome}
 use Rattle.judging.specs.declared.Answer.the-variants.{Refused, Accepted}
 use Rattle.judging.specs.declared.Outcome.{Outcome}
-use Rattle.stated_truth.proofs.Accepted.{AcceptedDivision, accepted-division}
+use Rattle.stated_truth.proofs.Theorems.{accepted-exactly-if-all-true}
 use Rattle.sheet_to_judgement.specs.AcceptedText.{acceptedText}
 use Rattle.sheet_to_judgement.specs.internal.MarginsText.{marginsText}
 use Rattle.sheet_to_judgement.specs.internal.Printing.{printing}
@@ -57,8 +57,8 @@ module _ (n m : ℕ) (table : List (List ℕ)) (stated : Option Stated) {o : Out
     margins-accepted : (margins : List ℤ) × (judging n m table stated ≡ accepted margins)
     margins-accepted = accepted-outcome (judging n m table stated) (sym (ap (λ o. o .answer) judged) ∙ e)
 
-    division : AcceptedDivision n m table stated (margins-accepted .0)
-    division = accepted-division n m table stated (margins-accepted .0) (margins-accepted .1)
+    division : TrueDivision n m table stated (margins-accepted .0)
+    division = accepted-exactly-if-all-true n m table stated (margins-accepted .0) .0 (margins-accepted .1)
 
     pub accepted-few : n ≤ mostAgents
     accepted-few = division .counts .few

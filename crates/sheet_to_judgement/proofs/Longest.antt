@@ -6,7 +6,7 @@ use Prim.Native.Nat.{ℕ, _^_, _*_, _-_, _≤_, _<_}
 use native.Mathlib.Nat.{mul-le-mul}
 use native.Mathlib.Omega.{arith}
 use lib.IntN.{ℤ}
-use lib.ListN.{length, List·getD-map}
+use lib.ListN.{length, length-map, List·getD-map}
 use borrow.Author.Tests.{le-leb}
 use Rattle.lists.specs.Lists.{range, nth}
 use Rattle.lists.proofs.ranges.Ranges.{range-bounds, nth-mem, nth-map-range}
@@ -24,13 +24,13 @@ use Rattle.margins.proofs.Signs.{difference-small}
 use Rattle.grades.specs.Grade.{ownValues}
 use Rattle.grades.specs.Scale.{sharesOf}
 use Rattle.division_reading.specs.Stated.{Stated}
-use Rattle.division_reading.proofs.Shape.{LineShape, DivisionShape, division-shape}
+use Rattle.division_reading.specs.Shape.{FewDigits}
+use Rattle.division_reading.proofs.Shape.{division-digits}
 use Rattle.stated_truth.specs.Truth.{bundlesOf, noneStated, lineOf, AllTrue}
 use Rattle.sheet_to_judgement.specs.AcceptedText.{acceptedText, longestAccepted}
 use Rattle.sheet_to_judgement.specs.TextJudged.{textJudged, judgementFrom}
 use Rattle.sheet_to_judgement.proofs.Answers.{marginAt}
 use Rattle.sheet_to_judgement.proofs.Front.{readingFront-counts}
-use Rattle.sheet_to_judgement.proofs.Shape.{line-shape}
 use Rattle.sheet_to_judgement.proofs.Texts.{Small, length-acceptedText}
 use Rattle.sheet_to_judgement.proofs.Theorems.{accepted-exactly-if-true}
 
@@ -44,10 +44,10 @@ margin-fits n worth share few small-worth small-share =
     (omega (arith, mul-le-mul (bottom-small n few) worth-most))
     (omega (arith, mul-le-mul (top-small n few) share-most))
 
-module _ (n m : ℕ) (table : List (List ℕ)) (d : Stated) (shape : DivisionShape n m d) (t : AllTrue n m table d) (few : n ≤ mostAgents) where
+module _ (n m : ℕ) (table : List (List ℕ)) (d : Stated) (digits : FewDigits d) (t : AllTrue n m table d) (few : n ≤ mostAgents) where
   module _ {i : ℕ} (in-use : Mem i (range 1 n)) where
-    shape-of : LineShape n m (lineOf d i)
-    shape-of = line-shape n m d shape (lineOf d i) (nth-mem noneStated (d .lines) n (shape .line-each) in-use)
+    line-mem : Mem (lineOf d i) (d .lines)
+    line-mem = nth-mem noneStated (d .lines) n (sym (length-map (d .lines) (λ l. l .bundle)) ∙ t .divides .bundle-each) in-use
 
     worth-is : nth 0 (ownValues n (profile n m table) (bundlesOf d)) i ≡ lineOf d i .worth
     worth-is =
@@ -61,7 +61,7 @@ module _ (n m : ℕ) (table : List (List ℕ)) (d : Stated) (shape : DivisionSha
 
   margins-small : (i : ℕ) → Mem i (range 1 n) → Small (marginAt n m table (bundlesOf d) i)
   margins-small i in-use =
-      rw (worth-is in-use, share-is in-use) (margin-fits n (lineOf d i .worth) (lineOf d i .share) few (shape-of in-use .worth-below) (shape-of in-use .share-below))
+      rw (worth-is in-use, share-is in-use) (margin-fits n (lineOf d i .worth) (lineOf d i .share) few (digits .worth-below (lineOf d i) (line-mem in-use)) (digits .share-below (lineOf d i) (line-mem in-use)))
 
 module _ (text : List ℕ) (margins : List ℤ) (judged : textJudged text ≡ accepted margins) where
   text-short : length (acceptedText margins) ≤ longestAccepted
@@ -69,11 +69,11 @@ module _ (text : List ℕ) (margins : List ℤ) (judged : textJudged text ≡ ac
       let told = accepted-exactly-if-true text margins .0 judged in
       let sheet = told .sheet in
       let s = told .states in
-      let shape = division-shape (sheet .agents) (sheet .items) (s .behind) (told .division) (s .division-read) in
+      let digits = division-digits (sheet .agents) (sheet .items) (s .behind) (told .division) (s .division-read) in
       let few = readingFront-counts text sheet (s .behind) (s .sheet-read) .few in
       rw (told .margins-of)
       (length-acceptedText (sheet .agents) (marginAt (sheet .agents) (sheet .items) (sheet .table) (bundlesOf (told .division))) few
-      (margins-small (sheet .agents) (sheet .items) (sheet .table) (told .division) shape (told .all-true) few))
+      (margins-small (sheet .agents) (sheet .items) (sheet .table) (told .division) digits (told .all-true) few))
 
   -- an accepted text gets its margins printed, in a buffer of `longestAccepted` bytes or more
   pub accepted-judged : (room : ℕ) → longestAccepted ≤ room → judgementFrom text room ≡ accepted (acceptedText margins)

@@ -1,5 +1,5 @@
 -- "It is accepted exactly if all it states is true" (document 02, order 5), for every text. Assumes nothing.
-use mathlib.Core.Path.{_≡_, refl, sym, ap, _∙_}
+use mathlib.Core.Path.{_≡_, refl, ap, _∙_}
 use mathlib.Core.Logic.{_↔_}
 use mathlib.Core.List.{List}
 use Prim.Native.Nat.{ℕ}
@@ -8,13 +8,9 @@ use Rattle.sheet.specs.Answers.{Answer, refused, accepted, andThen}
 use Rattle.sheet.proofs.Accepted.{refused-not-accepted}
 use Rattle.reading.specs.Reading.{readingFront}
 use Rattle.division_reading.specs.Grammar.{divisionText}
-use Rattle.division_reading.proofs.Shape.{division-shape}
-use Rattle.stated_truth.specs.Judging.{judging}
-use Rattle.stated_truth.proofs.Accepted.{accepted-division}
 use Rattle.stated_truth.proofs.Theorems.{accepted-exactly-if-all-true}
 use Rattle.sheet_to_judgement.specs.TextJudged.{sheetJudged, textJudged, TrueText}
 use Rattle.sheet_to_judgement.proofs.Front.{readingFront-counts}
-use Rattle.sheet_to_judgement.proofs.Shape.{well-formed}
 
 -- the sheet of a text that is not refused, and what stands behind it
 followed : {A B : Type 0} (a : Answer A) (next : A → Answer B) (b : B) → andThen a next ≡ accepted b → (r : A) × (a ≡ accepted r) × (next r ≡ accepted b)
@@ -27,16 +23,13 @@ module _ (text : List ℕ) (margins : List ℤ) where
   unfolding textJudged
   accepted-true e =
       let ((sheet, behind), front, judged) = followed (readingFront text) _ margins e in
-      let a = accepted-division (sheet .agents) (sheet .items) (sheet .table) (divisionText (sheet .agents) (sheet .items) behind) margins judged in
-      let shape = division-shape (sheet .agents) (sheet .items) behind (a .division) (a .was-read) in
-      let again = sym (ap (judging (sheet .agents) (sheet .items) (sheet .table)) (a .was-read)) ∙ judged in
-      let told = accepted-exactly-if-all-true (sheet .agents) (sheet .items) (sheet .table) (a .division) (well-formed (sheet .agents) (sheet .items) (a .division) shape) .0 margins again in
+      let t = accepted-exactly-if-all-true (sheet .agents) (sheet .items) (sheet .table) (divisionText (sheet .agents) (sheet .items) behind) margins .0 judged in
       record {
         sheet = sheet;
-        division = a .division;
-        states = record { behind = behind; sheet-read = front; division-read = a .was-read };
-        all-true = told .0;
-        margins-of = told .1;
+        division = t .division;
+        states = record { behind = behind; sheet-read = front; division-read = t .was-read };
+        all-true = t .all-true;
+        margins-of = t .margins-of;
       }
 
   -- what is true is accepted
@@ -45,12 +38,15 @@ module _ (text : List ℕ) (margins : List ℤ) where
   true-accepted t =
       let sheet = t .sheet in
       let s = t .states in
-      let shape = division-shape (sheet .agents) (sheet .items) (s .behind) (t .division) (s .division-read) in
-      let told = accepted-exactly-if-all-true (sheet .agents) (sheet .items) (sheet .table) (t .division) (well-formed (sheet .agents) (sheet .items) (t .division) shape) .1 in
       ap (λ a. andThen a (λ (c, ts). sheetJudged c ts)) (s .sheet-read)
-      ∙ ap (judging (sheet .agents) (sheet .items) (sheet .table)) (s .division-read)
-      ∙ told (t .all-true) (readingFront-counts text sheet (s .behind) (s .sheet-read))
-      ∙ ap accepted (sym (t .margins-of))
+      ∙ accepted-exactly-if-all-true (sheet .agents) (sheet .items) (sheet .table) (divisionText (sheet .agents) (sheet .items) (s .behind)) margins .1
+      (record {
+        counts = readingFront-counts text sheet (s .behind) (s .sheet-read);
+        division = t .division;
+        was-read = s .division-read;
+        all-true = t .all-true;
+        margins-of = t .margins-of;
+      })
 
   -- "It is accepted exactly if all it states is true"
   pub accepted-exactly-if-true : (textJudged text ≡ accepted margins) ↔ TrueText text margins

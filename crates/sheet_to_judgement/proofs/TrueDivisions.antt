@@ -25,7 +25,7 @@ use Rattle.grades.specs.Scale.{sharesOf, marginsByTable}
 use Rattle.grades.proofs.Grades.{grade-bounds}
 use Rattle.division_reading.specs.Stated.{Stated}
 use Rattle.stated_truth.specs.Truth.{bundlesOf, AllTrue}
-use Rattle.stated_truth.specs.Shape.{WellFormed}
+use Rattle.division_reading.specs.Shape.{WellFormed}
 use Rattle.stated_text.specs.StatedText.{statedText, WithinDigits}
 use Rattle.stated_text.proofs.Lines.{line-bundle}
 use Rattle.stated_text.proofs.ReadBack.{statedText-reads-back}

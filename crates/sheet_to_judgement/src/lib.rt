@@ -4,7 +4,7 @@ ghost use lib.ListN.{length};
 ghost use Rattle.sheet.specs.Answers.{after};
 ghost use Rattle.writing.specs.Answered.{answered};
 ghost use Rattle.writing.specs.Filled.{filled};
-ghost use Rattle.judging.specs.Outcome.{statedIn};
+ghost use Rattle.stated_truth.specs.Lines.{statedIn};
 ghost use Rattle.sheet_to_judgement.specs.TextJudged.{judgementFrom};
 ghost use Rattle.sheet_to_judgement.specs.internal.Printing.{printing};
 use crate::accepted::print_margins;

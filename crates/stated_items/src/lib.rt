@@ -1,60 +1,47 @@
-// Whether each item is in just one of several bundles, of a division and of each cut that it states.
+// Whether the items that a division names, in its bundles and in the cuts that it states, are those of the sheet, and each in just one bundle.
 ghost use mathlib.Core.Path.{_≡_};
 ghost use mathlib.Core.List.{map};
-ghost use Prim.Native.Nat.{_≤_, _/_, _%_, min};
-ghost use lib.Dec.{eqb};
+ghost use Prim.Native.Nat.{_≤_, min};
 ghost use lib.ListN.{take};
-ghost use Rattle.lists.specs.Lists.{count};
 ghost use Rattle.sheet.specs.Limits.{mostAgents, mostItems};
 ghost use Rattle.sheet.specs.Sets.{itemsOf};
-ghost use Rattle.stated_truth.specs.Truth.{eachInOne};
-ghost use Rattle.stated_truth.specs.Lines.{cutsInOne, allInOne};
+ghost use Rattle.stated_truth.specs.Lines.{cutsPass, setsAndCuts};
+ghost use Rattle.stated_items.specs.Tests.{testOf};
 use division_reading::StatedLine;
 use sheet::Sets;
 use sheet::Sheet;
 use sheet::lesser;
 
-// How many of the first `agents` sets have a bit: that of item k is 2 ^ (k - 1).
-fn naming(sets: Sets, agents: usize, bit: u16) -> u16
-    requires { ⌜ (agents ≤ mostAgents) × (1 ≤ bit) ⌝ }
-    ensures { λ r. ⌜ r ≡ count (λ set. eqb (set / bit % 2) 1) (take agents sets) ⌝ }
-{
-    let mut found: u16 = 0;
-    let mut i: usize = 0;
-    while i < agents {
-        found += sets[i] / bit % 2;
-        i += 1;
-    }
-    found
+mod in_one;
+mod of_sheet;
+
+// A test of several bundles: they name items of the sheet only, or each item of it is in just one of them.
+pub enum Test {
+    OfSheet,
+    EachInOne,
 }
 
-// Whether each item from 1 to `items` is in just one of the first `agents` sets.
-fn each_in_one(sets: Sets, agents: usize, items: usize) -> bool
+// Whether the first `agents` sets pass a test.
+fn bundles_pass(test: Test, sets: Sets, agents: usize, items: usize) -> bool
     requires { ⌜ (agents ≤ mostAgents) × (items ≤ mostItems) ⌝ }
-    ensures { λ r. ⌜ r ≡ eachInOne items (map itemsOf (take agents sets)) ⌝ }
+    ensures { λ r. ⌜ r ≡ testOf test agents items (map itemsOf (take agents sets)) ⌝ }
 {
-    let mut bit: u16 = 1;
-    let mut i: usize = 0;
-    while i < items {
-        if naming(sets, agents, bit) != 1 {
-            return false;
-        }
-        bit = 2 * bit;
-        i += 1;
+    match test {
+        Test::OfSheet => of_sheet::bundles_of_sheet(sets, agents, items),
+        Test::EachInOne => in_one::each_in_one(sets, agents, items),
     }
-    true
 }
 
-// Whether it is in just one bundle of the cut, in each of the first `agents` lines.
-fn cuts_in_one(lines: [StatedLine; Sheet::AGENTS], agents: usize, items: usize) -> bool
+// Whether the bundles of the cut pass it, in each of the first `agents` lines.
+fn cuts_pass(test: Test, lines: [StatedLine; Sheet::AGENTS], agents: usize, items: usize) -> bool
     requires { ⌜ (agents ≤ mostAgents) × (items ≤ mostItems) ⌝ }
-    ensures { λ r. ⌜ r ≡ cutsInOne agents items lines ⌝ }
+    ensures { λ r. ⌜ r ≡ cutsPass agents (testOf test agents items) lines ⌝ }
 {
     let mut i: usize = 0;
     while i < agents {
         let line = lines[i];
         let cut = line.cut;
-        if !each_in_one(cut, agents, items) {
+        if !bundles_pass(test, cut, agents, items) {
             return false;
         }
         i += 1;
@@ -62,19 +49,20 @@ fn cuts_in_one(lines: [StatedLine; Sheet::AGENTS], agents: usize, items: usize) 
     true
 }
 
-// Whether it is in just one of the bundles, and in just one of each cut; both counts are cut to the limits of a sheet.
-pub fn all_in_one(
+// Whether the bundles pass it, and those of each cut; both counts are cut to the limits of a sheet.
+pub fn all_pass(
+    test: Test,
     bundles: Sets,
     lines: [StatedLine; Sheet::AGENTS],
     agents: usize,
     items: usize,
 ) -> bool
-    ensures { λ r. ⌜ r ≡ allInOne (min agents mostAgents) (min items mostItems) bundles lines ⌝ }
+    ensures { λ r. ⌜ r ≡ setsAndCuts (min agents mostAgents) (testOf test (min agents mostAgents) (min items mostItems)) bundles lines ⌝ }
 {
     let last = lesser(agents, Sheet::AGENTS);
     let counted = lesser(items, Sheet::ITEMS);
-    if !each_in_one(bundles, last, counted) {
+    if !bundles_pass(test, bundles, last, counted) {
         return false;
     }
-    cuts_in_one(lines, last, counted)
+    cuts_pass(test, lines, last, counted)
 }

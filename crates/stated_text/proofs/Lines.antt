@@ -10,7 +10,7 @@ use Rattle.lists.proofs.ranges.Ranges.{range-bounds, within-mem, nth-mem}
 use Rattle.lists.proofs.ranges.RangeSublists.{rising-range-sublist}
 use Rattle.division_reading.specs.Stated.{Stated}
 use Rattle.stated_truth.specs.Truth.{noneStated, lineOf}
-use Rattle.stated_truth.specs.Shape.{IsBundle, WellFormed}
+use Rattle.division_reading.specs.Shape.{IsBundle, WellFormed}
 
 -- items of the sheet that rise are some of the items in turn
 bundle-sublist : (m : ℕ) (b : List ℕ) → IsBundle m b → Sublist b (range 1 m)

@@ -9,7 +9,7 @@ use Rattle.sheet.specs.Limits.{mostAgents, mostItems}
 use Rattle.tokens.specs.Tokens.{tokens}
 use Rattle.division_reading.specs.Stated.{Stated}
 use Rattle.division_reading.specs.Grammar.{divisionText}
-use Rattle.stated_truth.specs.Shape.{WellFormed}
+use Rattle.division_reading.specs.Shape.{WellFormed}
 use Rattle.stated_text.specs.StatedText.{statedText, WithinDigits}
 use Rattle.stated_text.proofs.Lines.{line-bundle, line-cut-each, line-cut-bundle}
 use Rattle.stated_text.proofs.Lexed.{tokens-statedText}

@@ -14,7 +14,7 @@ use Rattle.sheet.specs.Limits.{mostAgents, mostItems, sumDigits}
 use Rattle.printed_lines.proofs.Lengths.{length-cutGroup, sumOver-spaced-items, length-yardLine, length-allLines}
 use Rattle.division_reading.specs.Stated.{Stated}
 use Rattle.stated_truth.specs.Truth.{lineOf}
-use Rattle.stated_truth.specs.Shape.{WellFormed}
+use Rattle.division_reading.specs.Shape.{WellFormed}
 use Rattle.stated_text.specs.StatedText.{lineText, statedText, WithinDigits}
 use Rattle.stated_text.proofs.Lines.{line-bundle, line-cut-each, line-cut-bundle}
 

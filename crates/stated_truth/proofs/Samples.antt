@@ -12,7 +12,7 @@ use Rattle.margins.specs.Terms.{largestOdd, termsFor}
 use Rattle.margins.specs.Margins.{margin}
 use Rattle.grades.specs.Grade.{envyFree, proportional, maximinFair, grade}
 use Rattle.division_reading.specs.Stated.{StatedLine, Stated}
-use Rattle.stated_truth.specs.Truth.{eachInOne, eachInOneOfAll, lineTrue, figuresTrue}
+use Rattle.stated_truth.specs.Truth.{bundlesAndCuts, ofSheet, eachInOne, lineTrue, figuresTrue}
 use Rattle.stated_truth.specs.Judging.{judging}
 
 abbrev rows : List (List ℕ)
@@ -49,8 +49,11 @@ samples =
     record { stated = divided 4 (line (1 ∷ 2 ∷ []) 2 1 firstTogether); answer = accepted margins }
     -- "A cut may be any that reaches the share"
     ∷ record { stated = divided 4 (line (1 ∷ 2 ∷ []) 2 1 lastTogether); answer = accepted margins }
-    -- nothing is read
+    -- nothing is read; a piece not on the sheet is named, in the division and in a cut; the cut has another count of bundles
     ∷ record { stated = none; answer = refused 11 }
+    ∷ record { stated = divided 4 (line (1 ∷ 2 ∷ 5 ∷ []) 2 1 firstTogether); answer = refused 11 }
+    ∷ record { stated = divided 4 (line (1 ∷ 2 ∷ []) 2 1 ((1 ∷ 2 ∷ []) ∷ (3 ∷ []) ∷ (4 ∷ 5 ∷ []) ∷ [])); answer = refused 11 }
+    ∷ record { stated = divided 4 (line (1 ∷ 2 ∷ []) 2 1 ((1 ∷ 2 ∷ []) ∷ (3 ∷ 4 ∷ []) ∷ [])); answer = refused 11 }
     -- item 2 is in no bundle, which comes before the false worth; item 3 is in two; item 4 is in no bundle of the cut
     ∷ record { stated = divided 4 (line (1 ∷ []) 2 1 firstTogether); answer = refused 12 }
     ∷ record { stated = divided 4 (line (1 ∷ 2 ∷ 3 ∷ []) 3 1 firstTogether); answer = refused 12 }
@@ -63,5 +66,5 @@ samples =
     ∷ []
 
 pub samples-judged : map (λ s. judging 3 4 rows (s .stated)) samples ≡ map (λ s. s .answer) samples
-unfolding samples judging sharing sharesCovered eachInOneOfAll eachInOne figuresTrue lineTrue grade envyFree proportional maximinFair profile maximinShare maximinPartition termsFor largestOdd margin
+unfolding samples judging sharing sharesCovered bundlesAndCuts ofSheet eachInOne figuresTrue lineTrue grade envyFree proportional maximinFair profile maximinShare maximinPartition termsFor largestOdd margin
 samples-judged = refl

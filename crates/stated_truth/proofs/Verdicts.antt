@@ -6,14 +6,14 @@ use mathlib.Core.Option.{Option}
 use Prim.Native.Nat.{ℕ, _≤_}
 use native.Mathlib.Omega.{arith}
 use Rattle.sheet.specs.Limits.{CountsWithin}
-use Rattle.sheet.specs.Answers.{NeverRefused, refused, accepted}
+use Rattle.sheet.specs.Answers.{NeverRefused, refused, accepted, requireSome}
 use Rattle.sheet.proofs.Refusals.{never-accepted, never-require, never-requireSome, never-andThen}
 use Rattle.shares.specs.Shares.{sharing}
 use Rattle.shares.proofs.Refusals.{sharing-within, sharing-refusals}
 use Rattle.grades.specs.Scale.{marginsByTable}
 use Rattle.division_reading.specs.Stated.{Stated}
-use Rattle.stated_truth.specs.Truth.{bundlesOf, eachInOneOfAll, figuresTrue}
-use Rattle.stated_truth.specs.Judging.{judging, judgingRead, judgingShared}
+use Rattle.stated_truth.specs.Truth.{bundlesOf, bundlesAndCuts, ofSheet, eachInOne, figuresTrue}
+use Rattle.stated_truth.specs.Judging.{judging, judgingRead}
 
 module _ (n m : ℕ) (table : List (List ℕ)) (stated : Option Stated) where
   -- refused as the shares are
@@ -22,7 +22,7 @@ module _ (n m : ℕ) (table : List (List ℕ)) (stated : Option Stated) where
   judging-refused number out = rw out
 
   -- within the limits there are shares
-  pub judging-within : CountsWithin n m → judging n m table stated ≡ judgingShared n m table stated
+  pub judging-within : CountsWithin n m → judging n m table stated ≡ requireSome 11 stated (judgingRead n m table)
   unfolding judging
   judging-within counts = rw (sharing-within n m table counts)
 
@@ -32,15 +32,21 @@ module _ (n m : ℕ) (table : List (List ℕ)) (stated : Option Stated) where
   judging-refusals k above =
       never-andThen k (sharing n m table) _ (sharing-refusals n m table k (omega arith)) (λ shares.
       never-requireSome k 11 stated _ (λ e. omega arith) (λ d.
-      never-require k 12 (eachInOneOfAll m d) _ (λ e. omega arith)
-      (never-require k 13 (figuresTrue n m table d) _ (λ e. omega arith) (never-accepted k _))))
+      never-require k 11 (bundlesAndCuts (ofSheet n m) d) _ (λ e. omega arith)
+      (never-require k 12 (bundlesAndCuts (eachInOne m) d) _ (λ e. omega arith)
+      (never-require k 13 (figuresTrue n m table d) _ (λ e. omega arith) (never-accepted k _)))))
 
 module _ (n m : ℕ) (table : List (List ℕ)) (d : Stated) where
-  pub judged-not-once : eachInOneOfAll m d ≡ false → judgingRead n m table d ≡ refused 12
-  judged-not-once out = rw out
+  pub judged-off-sheet : bundlesAndCuts (ofSheet n m) d ≡ false → judgingRead n m table d ≡ refused 11
+  judged-off-sheet out = rw out
 
-  pub judged-false : eachInOneOfAll m d ≡ true → figuresTrue n m table d ≡ false → judgingRead n m table d ≡ refused 13
-  judged-false once out = rw (once, out)
+  module _ (of-sheet : bundlesAndCuts (ofSheet n m) d ≡ true) where
+    pub judged-not-once : bundlesAndCuts (eachInOne m) d ≡ false → judgingRead n m table d ≡ refused 12
+    judged-not-once out = rw (of-sheet, out)
 
-  pub judged-true : eachInOneOfAll m d ≡ true → figuresTrue n m table d ≡ true → judgingRead n m table d ≡ accepted (marginsByTable n m table (bundlesOf d))
-  judged-true once correct = rw (once, correct)
+    module _ (once : bundlesAndCuts (eachInOne m) d ≡ true) where
+      pub judged-false : figuresTrue n m table d ≡ false → judgingRead n m table d ≡ refused 13
+      judged-false out = rw (of-sheet, once, out)
+
+      pub judged-true : figuresTrue n m table d ≡ true → judgingRead n m table d ≡ accepted (marginsByTable n m table (bundlesOf d))
+      judged-true correct = rw (of-sheet, once, correct)

@@ -1,6 +1,7 @@
--- The lines as the code has them, in six places, and what each states. Assumes nothing: these are definitions.
-use mathlib.Core.Bool.{Bool, _&&_}
+-- A division as the code has it, its lines in six places, and what it states. Assumes nothing: these are definitions.
+use mathlib.Core.Bool.{Bool, cond, _&&_}
 use mathlib.Core.List.{List, [], map}
+use mathlib.Core.Option.{Option, none, some}
 use Prim.Native.Nat.{ℕ}
 use lib.Dec.{eqb, leb}
 use lib.ListN.{take}
@@ -9,9 +10,9 @@ use Rattle.lists.specs.Sums.{leastOf}
 use Rattle.sheet.specs.Sets.{itemsOf}
 use Rattle.sheet.specs.Valuations.{value}
 use Rattle.sheet.specs.Tables.{valuation, allValues}
-use Rattle.division_reading.specs.Stated.{StatedLine}
+use Rattle.division_reading.specs.Stated.{StatedLine, Stated}
 use Rattle.division_reading.specs.declared.StatedLine as line
-use Rattle.stated_truth.specs.Truth.{eachInOne}
+use Rattle.division_reading.specs.declared.Stated as stated
 
 -- what stands beyond the last place
 abbrev pub noLine : line.StatedLine
@@ -21,15 +22,24 @@ noLine = record { bundle = 0; worth = 0; share = 0; cut = [] }
 abbrev pub statedLine : ℕ → line.StatedLine → StatedLine
 statedLine n l = record { bundle = itemsOf (l .bundle); worth = l .worth; share = l .share; cut = map itemsOf (take n (l .cut)) }
 
+-- what the first n lines state, with the grade
+abbrev pub statedOf : ℕ → ℕ → List line.StatedLine → Stated
+statedOf n grade lines = record { grade = grade; lines = map (statedLine n) (take n lines) }
+
+-- what is stated of n agents, where it was read
+abbrev pub statedIn : ℕ → stated.Stated → Option Stated
+statedIn n d = cond (d .read) (some (statedOf n (d .grade) (d .lines))) none
+
+module _ (n : ℕ) (test : List (List ℕ) → Bool) where
+  -- whether the bundles of the cut pass a test, in each line
+  abbrev pub cutsPass : List line.StatedLine → Bool
+  cutsPass lines = all (λ i. test (map itemsOf (take n (nth noLine lines i .cut)))) (range 1 n)
+
+  -- whether the bundles, which stand as sets, pass it, and those of each cut
+  abbrev pub setsAndCuts : List ℕ → List line.StatedLine → Bool
+  setsAndCuts sets lines = test (map itemsOf (take n sets)) && cutsPass lines
+
 module _ (n m : ℕ) where
-  -- whether each item is in just one bundle of the cut, in each line
-  abbrev pub cutsInOne : List line.StatedLine → Bool
-  cutsInOne lines = all (λ i. eachInOne m (map itemsOf (take n (nth noLine lines i .cut)))) (range 1 n)
-
-  -- whether it is in just one of the bundles, which stand as sets, and in just one of each cut
-  abbrev pub allInOne : List ℕ → List line.StatedLine → Bool
-  allInOne sets lines = eachInOne m (map itemsOf (take n sets)) && cutsInOne lines
-
   -- the value of the least bundle of a cut, by a valuation
   abbrev pub leastTo : List ℕ → List (List ℕ) → ℕ
   leastTo row cut = leastOf (λ c. value (allValues m row) (nth [] cut c)) n

@@ -5,8 +5,10 @@ use mathlib.Core.Bool.{Bool, _&&_}
 use mathlib.Core.List.{List, [], map}
 use Prim.Native.Nat.{ℕ, _≤_}
 use lib.Dec.{eqb, leb}
+use lib.ListN.{length}
 use Rattle.lists.specs.Lists.{range, nth, all, count, elem}
 use Rattle.lists.specs.Sums.{leastOf}
+use Rattle.sheet.specs.Limits.{within}
 use Rattle.sheet.specs.Valuations.{value}
 use Rattle.sheet.specs.Tables.{valuation, allValues}
 use Rattle.sheet.specs.Allocations.{Allocates}
@@ -26,14 +28,17 @@ noneStated = record { bundle = []; worth = 0; share = 0; cut = [] }
 abbrev pub lineOf : Stated → ℕ → StatedLine
 lineOf d i = nth noneStated (d .lines) i
 
-module _ (m : ℕ) where
-  -- whether no item of 1 .. m "is in no pile or in two": each is in just one of the bundles
-  unfoldable pub eachInOne : List (List ℕ) → Bool
-  eachInOne bundles = all (λ k. eqb (count (elem k) bundles) 1) (range 1 m)
+-- whether the bundles pass a test, those "of the division" and those of each cut
+unfoldable pub bundlesAndCuts : (List (List ℕ) → Bool) → Stated → Bool
+bundlesAndCuts test d = test (bundlesOf d) && all (λ l. test (l .cut)) (d .lines)
 
-  -- "of the division or of a cut"
-  unfoldable pub eachInOneOfAll : Stated → Bool
-  eachInOneOfAll d = eachInOne (bundlesOf d) && all (λ l. eachInOne (l .cut)) (d .lines)
+-- whether there are not "other counts of yards .. or a cut's piles" than n, and no bundle is "naming a piece not on the sheet": each is one of 1 .. m
+unfoldable pub ofSheet : ℕ → ℕ → List (List ℕ) → Bool
+ofSheet n m bundles = eqb (length bundles) n && all (all (within m)) bundles
+
+-- whether no item of 1 .. m "is in no pile or in two": each is in just one of the bundles
+unfoldable pub eachInOne : ℕ → List (List ℕ) → Bool
+eachInOne m bundles = all (λ k. eqb (count (elem k) bundles) 1) (range 1 m)
 
 module _ (n m : ℕ) (table : List (List ℕ)) where
   -- the value (worth) of a bundle by agent i's marks

@@ -6,7 +6,7 @@ use mathlib.Core.Option.{none, some}
 use Prim.Native.Nat.{ℕ, _≤_, _<_}
 use native.Mathlib.Omega.{arith}
 use lib.Dec.{leb}
-use lib.ListN.{length-map}
+use lib.ListN.{length, length-map}
 use lib.Seq.{sets}
 use borrow.Author.Tests.{le-leb, lt-leb}
 use Rattle.lists.specs.Lists.{padded}
@@ -14,14 +14,14 @@ use Rattle.lists.proofs.places.Padding.{sets-blank}
 use Rattle.sheet.specs.Limits.{mostAgents, mostItems}
 use Rattle.tokens.specs.Tokens.{Token}
 use Rattle.lexing.specs.Forms.{ended}
+use Rattle.lexing.proofs.readers.InTurn.{in-turn-length}
 use Rattle.sheet_lines.specs.Grammar.{endLine}
 use Rattle.division_reading.specs.Stated.{StatedLine, Stated}
-use Rattle.division_reading.specs.Grammar.{head, yardLines, divisionText, divisionWithin}
+use Rattle.division_reading.specs.Grammar.{yardLine, head, yardLines, divisionText, divisionWithin}
 use Rattle.division_reading.specs.Outcome.{keptLine, blankLine, blankLines, kept}
 use Rattle.division_reading.specs.internal.Kept.{keptLines}
 use Rattle.division_reading.specs.declared.StatedLine as line
 use Rattle.division_reading.specs.declared.Stated as stated
-use Rattle.division_reading.proofs.Shape.{lines-shape}
 use Rattle.bundle_reading.proofs.MapRead.{ReadFrom, read-from, none-read}
 
 -- counts beyond the limits
@@ -63,8 +63,8 @@ module _ (agents items : ℕ) (ts₀ : List Token) (few : agents ≤ mostAgents)
 
       lines-stored : lines ≡ padded mostAgents blankLine (map keptLine (lines-read .value))
       lines-stored =
-          let shape = rw (lines-read .read) at (lines-shape agents items ts₁) in
-          lines-read .made ∙ sets-blank mostAgents blankLine (map keptLine (lines-read .value)) (omega (arith, shape .0, length-map (lines-read .value) keptLine))
+          let each : length (lines-read .value) ≡ agents = rw (lines-read .read) at (in-turn-length (yardLine agents items) 1 agents ts₁) in
+          lines-read .made ∙ sets-blank mostAgents blankLine (map keptLine (lines-read .value)) (omega (arith, each, length-map (lines-read .value) keptLine))
 
       pub division-read : (ts₃ : List Token) → endLine ended ts₂ ≡ some ts₃ → kept-as grade lines ≡ kept (divisionWithin agents items ts₀)
       unfolding divisionText

@@ -4,8 +4,9 @@ use borrow.Author.Needs.{needs}
 use Rattle.sheet.specs.Limits.{CountsWithin}
 use Rattle.shares.specs.Shares.{sharing}
 use Rattle.shares.proofs.Outcomes.{answered-refused, answered-shared, shares-within}
-use Rattle.judging.specs.Outcome.{statedIn, outcome}
-use Rattle.stated_truth.proofs.Verdicts.{judging-refused, judging-within}
+use Rattle.judging.specs.Outcome.{outcome}
+use Rattle.stated_truth.specs.Lines.{statedIn}
+use Rattle.stated_truth.proofs.Verdicts.{judging-refused}
 use Rattle.judging.proofs.judge.Statement.{statement}
 use Rattle.judging.proofs.judge.Tie as tie
 
@@ -46,9 +47,7 @@ returns c =
     c .refuse .ensures ∙ ap outcome (sym (judging-refused (a .agents) (a .items) (a .table) (statedIn (a .agents) (a .stated)) number refused-so))
 
 returns-2 : tie.Need-returns-2
-returns-2 c =
-    let a = c .before .before .before .before .before .args in
-    c .judge-shared .ensures ∙ ap outcome (sym (judging-within (a .agents) (a .items) (a .table) (statedIn (a .agents) (a .stated)) (counts-within (c .before))))
+returns-2 c = c .judge-shared .ensures
 
 pub judge-spec : {M : Type 1} → statement M
 judge-spec =

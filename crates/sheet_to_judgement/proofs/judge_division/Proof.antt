@@ -11,7 +11,7 @@ use Rattle.reading.specs.Reading.{readingFront}
 use Rattle.writing.specs.Filled.{filled}
 use Rattle.writing.specs.Answered.{answered}
 use Rattle.division_reading.specs.Grammar.{divisionText}
-use Rattle.judging.specs.Outcome.{statedIn}
+use Rattle.stated_truth.specs.Lines.{statedIn}
 use Rattle.sheet_to_judgement.specs.TextJudged.{textJudged, judgementFrom}
 use Rattle.sheet_to_judgement.specs.internal.Printing.{printing}
 use Rattle.sheet_to_judgement.proofs.StatedBack.{stated-kept}

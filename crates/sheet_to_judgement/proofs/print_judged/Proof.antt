@@ -1,7 +1,7 @@
 -- `print_judged` meets its contract, by the case of the judgement. Assumes nothing.
 use mathlib.Core.Path.{refl}
 use Rattle.sheet_to_judgement.proofs.Answers.{refusal-printed, accepted-few, margins-printed}
-use Rattle.judging.specs.Outcome.{statedIn}
+use Rattle.stated_truth.specs.Lines.{statedIn}
 use borrow.Author.Needs.{needs}
 use Rattle.sheet_to_judgement.proofs.print_judged.Statement.{statement}
 use Rattle.sheet_to_judgement.proofs.print_judged.Tie as tie

@@ -2,10 +2,12 @@
 -- order 5). Assumes nothing: these are definitions.
 use mathlib.Core.Path.{_≡_}
 use mathlib.Core.List.{List, List·Memᴰ as Mem}
-use Prim.Native.Nat.{ℕ}
+use Prim.Native.Nat.{ℕ, _^_, _<_}
 use lib.ListN.{length}
 use Rattle.lists.specs.Lists.{Within, Rising}
+use Rattle.sheet.specs.Limits.{sumDigits}
+use Rattle.division_numbers.specs.Numbers.{gradeDigits}
 use Rattle.division_reading.specs.Stated.{StatedLine, Stated}
 
 -- "a pile's pieces rise", and are pieces of the sheet
 pub record IsBundle (m : ℕ) (bundle : List ℕ) : Type 0 where
@@ -18,3 +20,9 @@ pub record WellFormed (n m : ℕ) (d : Stated) : Type 0 where
   pub bundle : (l : StatedLine) → Mem l (d .lines) → IsBundle m (l .bundle)
   pub cut-each : (l : StatedLine) → Mem l (d .lines) → length (l .cut) ≡ n
   pub cut-bundle : (l : StatedLine) → Mem l (d .lines) → (b : List ℕ) → Mem b (l .cut) → IsBundle m b
+
+-- "a worth or share has at most eleven digits, a grade one"
+pub record FewDigits (d : Stated) : Type 0 where
+  pub grade-below : d .grade < 10 ^ gradeDigits
+  pub worth-below : (l : StatedLine) → Mem l (d .lines) → l .worth < 10 ^ sumDigits
+  pub share-below : (l : StatedLine) → Mem l (d .lines) → l .share < 10 ^ sumDigits

@@ -1,4 +1,4 @@
--- `stated_items::naming` meets its contract. The loop's invariant: the first i sets are counted. Assumes nothing.
+-- `stated_items::in_one::naming` meets its contract. The loop's invariant: the first i sets are counted. Assumes nothing.
 use mathlib.Core.Path.{_≡_, refl, sym, ap, _∙_}
 use Prim.Native.Nat.{_+_, _-_, _/_, _%_, _≤_}
 use native.Mathlib.Omega.{arith}
@@ -8,8 +8,8 @@ use borrow.Kind.Array.{good-length, eInt}
 use Rattle.lists.specs.Lists.{count}
 use Rattle.sheet.specs.Limits.{mostAgents}
 use Rattle.stated_items.proofs.Bits.{hasBit, count-next}
-use Rattle.stated_items.proofs.naming.Statement.{statement}
-use Rattle.stated_items.proofs.naming.Tie as tie
+use Rattle.stated_items.proofs.in_one.naming.Statement.{statement}
+use Rattle.stated_items.proofs.in_one.naming.Tie as tie
 
 abbrev Inv-loop : tie.InvT-loop
 Inv-loop agents bit sets found₀ i₀ found i = (i ≤ agents) × (found ≤ i) × (found ≡ count (hasBit bit) (take i sets))

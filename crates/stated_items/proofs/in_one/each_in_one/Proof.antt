@@ -1,4 +1,4 @@
--- `stated_items::each_in_one` meets its contract. The loop's invariant: each of the first i items is in just one set. Assumes nothing.
+-- `stated_items::in_one::each_in_one` meets its contract. The loop's invariant: each of the first i items is in just one set. Assumes nothing.
 use mathlib.Core.Path.{_≡_, refl, sym, ap, _∙_}
 use mathlib.Core.Bool.{Bool, true}
 use mathlib.Core.List.{List, map}
@@ -15,8 +15,8 @@ use Rattle.sheet.specs.Limits.{mostItems}
 use Rattle.sheet.specs.Sets.{itemsOf}
 use Rattle.stated_truth.specs.Truth.{eachInOne}
 use Rattle.stated_items.proofs.Bits.{hasBit, count-naming}
-use Rattle.stated_items.proofs.each_in_one.Statement.{statement}
-use Rattle.stated_items.proofs.each_in_one.Tie as tie
+use Rattle.stated_items.proofs.in_one.each_in_one.Statement.{statement}
+use Rattle.stated_items.proofs.in_one.each_in_one.Tie as tie
 
 -- whether item k is in just one of the first n sets
 abbrev inOne : ℕ → List ℕ → ℕ → Bool

@@ -1,0 +1,2 @@
+-- The tests of bundles.
+pub mod Tests
