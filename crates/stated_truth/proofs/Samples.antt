@@ -1,5 +1,6 @@
 -- The division of sheet c of document 01, and divisions that differ from it in one thing, judged by computation. Assumes nothing.
 use mathlib.Core.Path.{_≡_, refl}
+use mathlib.Core.Bool.{true}
 use mathlib.Core.List.{List, [], _∷_, map}
 use mathlib.Core.Option.{Option, none, some}
 use Prim.Native.Nat.{ℕ}
@@ -11,9 +12,12 @@ use Rattle.shares.specs.Shares.{sharesCovered, sharing}
 use Rattle.margins.specs.Terms.{largestOdd, termsFor}
 use Rattle.margins.specs.Margins.{margin}
 use Rattle.grades.specs.Grade.{envyFree, proportional, maximinFair, grade}
+use Rattle.sheet.specs.Sets.{itemsOf}
 use Rattle.division_reading.specs.Stated.{StatedLine, Stated}
+use Rattle.division_reading.specs.declared.Stated as stated
 use Rattle.stated_truth.specs.Truth.{bundlesAndCuts, ofSheet, eachInOne, lineTrue, figuresTrue}
 use Rattle.stated_truth.specs.Judging.{judging}
+use Rattle.stated_truth.specs.Lines.{noLine, statedIn}
 
 abbrev rows : List (List ℕ)
 rows = (1 ∷ 1 ∷ 1 ∷ 1 ∷ []) ∷ (4 ∷ 4 ∷ 3 ∷ 1 ∷ []) ∷ (1 ∷ 1 ∷ 1 ∷ 1 ∷ []) ∷ []
@@ -68,3 +72,23 @@ samples =
 pub samples-judged : map (λ s. judging 3 4 rows (s .stated)) samples ≡ map (λ s. s .answer) samples
 unfolding samples judging sharing sharesCovered bundlesAndCuts ofSheet eachInOne figuresTrue lineTrue grade envyFree proportional maximinFair profile maximinShare maximinPartition termsFor largestOdd margin
 samples-judged = refl
+
+-- the same as the code has it, with a set for the bundle of agent 1
+abbrev handed : ℕ → stated.Stated
+handed set =
+    record {
+      read = true;
+      grade = 4;
+      lines = record { bundle = set; worth = 2; share = 1; cut = 3 ∷ 4 ∷ 8 ∷ 0 ∷ 0 ∷ 0 ∷ [] }
+          ∷ record { bundle = 4; worth = 3; share = 4; cut = 1 ∷ 2 ∷ 12 ∷ 0 ∷ 0 ∷ 0 ∷ [] }
+          ∷ record { bundle = 8; worth = 1; share = 1; cut = 3 ∷ 4 ∷ 8 ∷ 0 ∷ 0 ∷ 0 ∷ [] }
+          ∷ noLine
+          ∷ noLine
+          ∷ noLine
+          ∷ [];
+    }
+
+-- items 1 and 2; 1, 2 and 5, and 1, 2 and 16, which are not on the sheet; item 1 alone
+pub sets-judged : map (λ set. judging 3 4 rows (statedIn 3 (handed set))) (3 ∷ 19 ∷ 32771 ∷ 1 ∷ []) ≡ accepted margins ∷ refused 11 ∷ refused 11 ∷ refused 12 ∷ []
+unfolding judging sharing sharesCovered bundlesAndCuts ofSheet eachInOne figuresTrue lineTrue grade envyFree proportional maximinFair profile maximinShare maximinPartition termsFor largestOdd margin itemsOf
+sets-judged = refl
