@@ -9,3 +9,4 @@ pub mod Prefixes
 pub mod Fronts
 pub mod PartRest
 pub mod Defaults
+pub mod Entries

@@ -6,6 +6,7 @@ pub mod Allocation
 pub mod Answers
 pub mod EveryRound
 pub mod DividedAsDocumented
+pub mod OneDivision
 pub mod Graded
 pub mod Theorems
 pub mod Samples
