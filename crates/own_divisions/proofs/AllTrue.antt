@@ -1,10 +1,10 @@
 -- Document 02, order 5: all that a division of the box states is true, and its margins are those by the table. Assumes nothing.
-use mathlib.Core.Path.{_≡_, refl, sym, ap, _∙_}
-use mathlib.Core.List.{List, [], map-map, List·Memᴰ as Mem}
+use mathlib.Core.Path.{_≡_, refl, sym, ap, subst, _∙_}
+use mathlib.Core.List.{List, [], map-map, List·Memᴰ as Mem, Memᴰ·of-map}
 use mathlib.Core.List.{Sublistᴰ as Sublist}
 use Prim.Native.Nat.{ℕ}
 use native.Mathlib.Omega.{arith}
-use lib.ListN.{length-map}
+use lib.ListN.{length, length-map}
 use Rattle.lists.specs.Lists.{range, nth}
 use Rattle.lists.proofs.ranges.Ranges.{in-range, length-range, nth-map-range, map-nth-range}
 use Rattle.sheet.specs.Limits.{CountsWithin}
@@ -109,6 +109,18 @@ module _ (n m : ℕ) (table : List (List ℕ)) where
           share-true = λ i lo hi. share-stated (in-range 1 n i lo (omega arith));
           cut-reaches = λ i lo hi. omega (arith, cut-least (in-range 1 n i lo (omega arith)));
           grade-true = rw bundles-stated grade-own;
+        }
+
+    -- and it has the shape of what is read
+    pub own-division-shape : WellFormed n m (statedBy n m table d)
+    own-division-shape =
+        record {
+          line-each = length-map (range 1 n) (statedLineBy n m table d) ∙ length-range 1 n;
+          bundle = λ l ml. let (i, mi, e) = Memᴰ·of-map (statedLineBy n m table d) (range 1 n) ml in rw (← e) (sublist-bundle m (bundle-sublist mi));
+          cut-each = λ l ml. let (i, mi, e) = Memᴰ·of-map (statedLineBy n m table d) (range 1 n) ml in ap (λ l. length (l .cut)) (sym e) ∙ length-map (range 1 n) _ ∙ length-range 1 n;
+          cut-bundle = λ l ml b mb.
+              let (i, mi, e) = Memᴰ·of-map (statedLineBy n m table d) (range 1 n) ml in
+              sublist-bundle m (allBundles-sublist n m (nth [] (d .cuts) i) b (subst (λ l. Mem b (l .cut)) (sym e) mb));
         }
 
     -- "its margin" is by the table, for each agent

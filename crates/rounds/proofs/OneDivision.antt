@@ -110,7 +110,7 @@ module _ {n m : ℕ} {terms : Terms} {table : List (List ℕ)} {d d′ : Divisio
   -- the agent's bundle in a round that serves it
   same-bundle-in : (agent : ℕ) (r : Round) → Mem r (a .rounds) → Mem agent (r .served) → nth [] (d .bundles) agent ≡ nth [] (d′ .bundles) agent
   same-bundle-in agent r mr ms =
-      let (i, lt, is) = mem-place agent (r .served) ms in
+      let (i, lt, is) = mem-place 0 agent (r .served) ms in
       let at : nth 0 (r .served) (i + 1) ≡ agent = nth-next 0 (r .served) i ∙ is in
       rw (← at) (a .bundles-of-rounds r mr (i + 1) (omega arith) (omega arith)
       ∙ sym (a′ .bundles-of-rounds r (rw same-rounds at mr) (i + 1) (omega arith) (omega arith)))

@@ -23,7 +23,7 @@ use Rattle.margins.specs.Margins.{margin}
 use Rattle.grades.specs.Grade.{envyFree, proportional, maximinFair, grade}
 use Rattle.division_reading.specs.Stated.{StatedLine, Stated}
 use Rattle.division_reading.specs.Grammar as division
-use Rattle.stated_truth.specs.Truth.{eachInOne, eachInOneOfAll, lineTrue, figuresTrue}
+use Rattle.stated_truth.specs.Truth.{bundlesAndCuts, ofSheet, eachInOne, lineTrue, figuresTrue}
 use Rattle.stated_truth.specs.Judging.{judging}
 use Rattle.sheet_to_judgement.specs.AcceptedText.{acceptedText, longestAccepted}
 use Rattle.sheet_to_judgement.specs.TextJudged.{textJudged, judgementFrom}
@@ -59,7 +59,7 @@ unfolding division.divisionText division.head division.amounts division.yardLine
 division-c-read = refl
 
 division-c-judged : judging 3 4 (contentsC .table) (some statedC) ≡ accepted marginsC
-unfolding judging sharing sharesCovered eachInOneOfAll eachInOne figuresTrue lineTrue grade envyFree proportional maximinFair profile maximinShare maximinPartition termsFor largestOdd margin
+unfolding judging sharing sharesCovered bundlesAndCuts ofSheet eachInOne figuresTrue lineTrue grade envyFree proportional maximinFair profile maximinShare maximinPartition termsFor largestOdd margin
 division-c-judged = refl
 
 sheet-c-judged : textJudged sheetCAndDivision ≡ accepted marginsC

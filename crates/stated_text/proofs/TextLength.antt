@@ -14,9 +14,9 @@ use Rattle.sheet.specs.Limits.{mostAgents, mostItems, sumDigits}
 use Rattle.printed_lines.proofs.Lengths.{length-cutGroup, sumOver-spaced-items, length-yardLine, length-allLines}
 use Rattle.division_reading.specs.Stated.{Stated}
 use Rattle.stated_truth.specs.Truth.{lineOf}
-use Rattle.division_reading.specs.Shape.{WellFormed}
-use Rattle.stated_text.specs.StatedText.{lineText, statedText, WithinDigits}
-use Rattle.stated_text.proofs.Lines.{line-bundle, line-cut-each, line-cut-bundle}
+use Rattle.division_reading.specs.Shape.{WellFormed, FewDigits}
+use Rattle.stated_text.specs.StatedText.{lineText, statedText}
+use Rattle.stated_text.proofs.Lines.{line-mem, line-bundle, line-cut-each, line-cut-bundle}
 
 -- the most bytes of a cut, in which each pile may have all items, and of a yard line with it
 abbrev longestCut : ℕ
@@ -34,14 +34,14 @@ module _ (m : ℕ) (few-items : m ≤ mostItems) where
   cut-items [] s = omega arith
   cut-items (b ∷ cut) s = omega (arith, sumOver-spaced-items m few-items (s b (here refl)), cut-items cut (λ c mc. s c (there mc)))
 
-module _ (n m : ℕ) (d : Stated) (few : n ≤ mostAgents) (few-items : m ≤ mostItems) (shape : WellFormed n m d) (small : WithinDigits n d) where
+module _ (n m : ℕ) (d : Stated) (few : n ≤ mostAgents) (few-items : m ≤ mostItems) (shape : WellFormed n m d) (small : FewDigits d) where
   length-line : (i : ℕ) → Mem i (range 1 n) → length (lineText i (lineOf d i)) ≤ longestLine
   length-line i in-use =
       let b = range-bounds 1 n in-use in
       let l = lineOf d i in
       omega (
         arith,
-        length-yardLine m few-items (line-bundle n m d shape in-use) i (l .worth) (l .share) (l .cut) (omega arith) (small .worth-below i (b .0) (omega arith)) (small .share-below i (b .0) (omega arith)),
+        length-yardLine m few-items (line-bundle n m d shape in-use) i (l .worth) (l .share) (l .cut) (omega arith) (small .worth-below l (line-mem n m d shape in-use)) (small .share-below l (line-mem n m d shape in-use)),
         length-cutGroup (l .cut),
         line-cut-each n m d shape in-use,
         cut-items m few-items (l .cut) (line-cut-bundle n m d shape in-use),

@@ -10,12 +10,12 @@ use Rattle.lists.specs.Lists.{nth}
 use Rattle.lists.proofs.places.Places.{nth-next}
 
 -- a member of a list stands at a place of it
-pub mem-place : (x : ℕ) (xs : List ℕ) → Mem x xs → (i : ℕ) × (i < length xs) × (getD xs i 0 ≡ x)
-mem-place x [] m = absurd (not-nil m)
-mem-place x (y ∷ ys) m =
+pub mem-place : {A : Type 0} (blank x : A) (xs : List A) → Mem x xs → (i : ℕ) × (i < length xs) × (getD xs i blank ≡ x)
+mem-place blank x [] m = absurd (not-nil m)
+mem-place blank x (y ∷ ys) m =
     ⊎-elim
     (λ (e : x ≡ y). (0, omega arith, sym e))
-    (λ later. let (i, lt, at) = mem-place x ys later in (suc i, omega arith, at))
+    (λ later. let (i, lt, at) = mem-place blank x ys later in (suc i, omega arith, at))
     (cases-cons m)
 
 -- lists of n entries that are the same at each place are the same
