@@ -87,7 +87,8 @@ fn judge_shared(
     let named = all_pass(Test::OfSheet, bundles, lines, agents, items);
     let once = all_pass(Test::EachInOne, bundles, lines, agents, items);
     let correct = figures_true(table, agents, items, shares, lines, grade, stated.grade);
-    if !both(read, named) {
+    let laid_out = both(read, named);
+    if !laid_out {
         return refuse(11);
     }
     if !once {
