@@ -1,7 +1,7 @@
 -- Laws of the bundles of a partition, item after item. Assumes nothing.
 use mathlib.Core.Path.{_≡_, refl, ap, _∙_}
 use mathlib.Core.Bool.{Bool, true, false}
-use mathlib.Core.List.{List, [], _∷_, _++_, map, append-nil}
+use mathlib.Core.List.{List, [], _∷_, _++_, map, append-nil, List·Memᴰ as Mem, List·Memᴰ·head as here, List·Memᴰ·tail as there}
 use mathlib.Core.List.{Sublistᴰ as Sublist, Sublistᴰ·slnil as done, Sublistᴰ·cons as skip, Sublistᴰ·cons-cons as keep, Sublistᴰ·nil-sublist as nil-sublist}
 use Prim.Native.Nat.{ℕ, zero, suc, _+_, _≤_, _<_, min}
 use native.Mathlib.Omega.{arith}
@@ -18,6 +18,12 @@ itemsIn-sublist t [] l = done
 itemsIn-sublist t (k ∷ items) [] = nil-sublist (k ∷ items)
 itemsIn-sublist t (k ∷ items) (c ∷ l) = elim (t c) as (λ b. Sublist (consIf b k (itemsIn t items l)) (k ∷ items))
     [ true ↦ keep refl (itemsIn-sublist t items l) | false ↦ skip (itemsIn-sublist t items l) ]
+
+-- bundles that fail the test hold nothing
+pub itemsIn-none : (t : ℕ → Bool) (items l : List ℕ) → ((c : ℕ) → Mem c l → t c ≡ false) → itemsIn t items l ≡ []
+itemsIn-none t [] l none = refl
+itemsIn-none t (k ∷ items) [] none = refl
+itemsIn-none t (k ∷ items) (c ∷ l) none = rw (none c (here refl)) (itemsIn-none t items l (λ d m. none d (there m)))
 
 -- the items of the bundles that pass a test, where f names the bundle of each item
 pub itemsIn-map : (t : ℕ → Bool) (f : ℕ → ℕ) (items : List ℕ) → itemsIn t items (map f items) ≡ filter (λ k. t (f k)) items

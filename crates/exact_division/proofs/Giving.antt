@@ -8,7 +8,7 @@ use Rattle.lists.proofs.ranges.RangeSublists.{range-sublist-rising}
 use Rattle.lists.proofs.dictionary.Listed.{listsOver-in}
 use Rattle.sheet.specs.Allocations.{Allocates}
 use Rattle.maximin.specs.Partitions.{partitions}
-use Rattle.rounds.proofs.round.Allocating.{allBundles-sublist, allBundles-allocate}
+use Rattle.bundling.proofs.Allocating.{allBundles-sublist, allBundles-allocate}
 use Rattle.exact_division.specs.Exact.{bundlesBy}
 
 module _ (n m : ℕ) (agents : List ℕ) where

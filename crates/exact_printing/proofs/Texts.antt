@@ -17,7 +17,7 @@ use Rattle.sheet.specs.Limits.{mostAgents, mostItems, setBits}
 use Rattle.sheet.specs.Sets.{setOf}
 use Rattle.sheet.proofs.sets.Bundles.{nth-set-items}
 use Rattle.bundling.specs.Bundles.{bundle}
-use Rattle.rounds.proofs.round.Bundles.{sumOver-handed}
+use Rattle.bundling.proofs.Sums.{sumOver-handed}
 use Rattle.writing.proofs.Lengths.{spaced, length-group, sumOver-spaced}
 use Rattle.exact_division.specs.Exact.{ExactDivision}
 use Rattle.exact_division.proofs.Holders.{holders, bundlesBy-holders}

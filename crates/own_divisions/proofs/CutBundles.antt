@@ -14,7 +14,7 @@ use Rattle.sheet.proofs.valuing.Tables.{value-allValues}
 use Rattle.maximin.specs.Share.{bundleValue, leastBundle}
 use Rattle.bundling.specs.Bundles.{bundle, allBundles}
 use Rattle.bundling.proofs.Bundles.{itemsIn-sublist}
-use Rattle.rounds.proofs.round.Bundles.{bundleValue-items}
+use Rattle.bundling.proofs.Sums.{bundleValue-items}
 
 pub leastOf-allBundles : (m : ℕ) (row : List ℕ) (n : ℕ) (partition : List ℕ)
     → leastOf (λ c. value (allValues m row) (nth [] (allBundles n m partition) c)) n ≡ leastBundle n (allValues m row) partition

@@ -1,6 +1,4 @@
--- The bundles and parts of one round, the invariant that it keeps, and all rounds one after the other.
-pub mod Bundles
-pub mod Allocating
+-- The parts of one round, the invariant that it keeps, and all rounds one after the other.
 pub mod Held
 pub mod Parts
 pub mod Invariant

@@ -9,7 +9,7 @@ use Rattle.lists.specs.Sums.{sumOver}
 use Rattle.lists.proofs.sums.Totals.{sumOver-cong}
 use Rattle.sheet.specs.Sets.{setOf}
 use Rattle.bundling.specs.Bundles.{itemsIn, bundle}
-use Rattle.rounds.proofs.round.Bundles.{sumOver-handed}
+use Rattle.bundling.proofs.Sums.{sumOver-handed}
 
 -- a set as a sum over its items
 setOf-sum : (ks : List ℕ) → setOf ks ≡ sumOver (λ k. 2 ^ (k - 1)) ks

@@ -15,7 +15,7 @@ use Rattle.sheet.specs.Valuations.{value}
 use Rattle.sheet.specs.Tables.{valuation}
 use Rattle.bundling.specs.Bundles.{bundle, allBundles}
 use Rattle.rounds.specs.Division.{Division}
-use Rattle.rounds.proofs.round.Bundles.{sumOver-handed}
+use Rattle.bundling.proofs.Sums.{sumOver-handed}
 use Rattle.printed_lines.proofs.Lengths.{length-cutGroup, length-yardLine, length-allLines}
 use Rattle.printing.specs.Printed.{cutGroup, cuttersLine, agentLine, printed}
 use Rattle.printing.specs.Printing.{longestCut, longestYard, longestCutters, longestPrinted}

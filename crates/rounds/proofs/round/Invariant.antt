@@ -25,7 +25,8 @@ use Rattle.bundling.specs.Bundles.{bundle}
 use Rattle.rounds.specs.Round.{Instance, suits, cutOf, Round, round}
 use Rattle.matching.proofs.Matching.{suited-length}
 use mathlib.Core.List.{map-map}
-use Rattle.rounds.proofs.round.Bundles.{itemsIn-none, bundleValue-items, sumOver-handed}
+use Rattle.bundling.proofs.Bundles.{itemsIn-none}
+use Rattle.bundling.proofs.Sums.{bundleValue-items, sumOver-handed}
 use Rattle.rounds.proofs.round.Held.{AllSuit, suited-allSuit}
 use Rattle.matching.proofs.Cutter.{cutterOf-mem}
 use Rattle.matching.proofs.Serving.{served-or-waiting, free-unsuited, served-matched, none-waiting-all-handed}

@@ -14,9 +14,9 @@ use Rattle.lists.proofs.members.Counting.{sublist-mem}
 use Rattle.lists.proofs.members.Distinct.{mem-elem, range-distinct}
 use Rattle.lists.proofs.sums.InOneList.{in-one-list}
 use Rattle.sheet.specs.Allocations.{Allocates}
 use Rattle.bundling.specs.Bundles.{bundle, allBundles}
-use Rattle.bundling.proofs.Bundles.{itemsIn-sublist}
-use Rattle.rounds.proofs.round.Bundles.{itemsIn-none, sumOver-handed}
+use Rattle.bundling.proofs.Bundles.{itemsIn-sublist, itemsIn-none}
+use Rattle.bundling.proofs.Sums.{sumOver-handed}
 
 module _ (n m : ℕ) (partition : List ℕ) where
   -- each bundle is a sub-list of the items
