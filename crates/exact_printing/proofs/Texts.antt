@@ -13,12 +13,13 @@ use Rattle.lists.proofs.ranges.RangeSublists.{rising-range-sublist}
 use Rattle.lists.proofs.members.Distinct.{range-distinct}
 use Rattle.lists.proofs.members.FlatMap.{flatMap-cong, flatMap-map}
 use Rattle.text.specs.Bytes.{bytes}
+use Rattle.text.proofs.Spaced.{spaced, sumOver-spaced}
 use Rattle.sheet.specs.Limits.{mostAgents, mostItems, setBits}
 use Rattle.sheet.specs.Sets.{setOf}
 use Rattle.sheet.proofs.sets.Bundles.{nth-set-items}
 use Rattle.bundling.specs.Bundles.{bundle}
 use Rattle.bundling.proofs.Sums.{sumOver-handed}
-use Rattle.writing.proofs.Lengths.{spaced, length-group, sumOver-spaced}
+use Rattle.writing.proofs.Lengths.{length-group}
 use Rattle.exact_division.specs.Exact.{ExactDivision}
 use Rattle.exact_division.proofs.Holders.{holders, bundlesBy-holders}
 use Rattle.exact_printing.specs.ExactText.{spacedGroup, exactText}

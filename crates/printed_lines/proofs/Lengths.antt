@@ -12,7 +12,8 @@ use Rattle.lists.proofs.members.Counting.{sublist-mem, length-sublist}
 use Rattle.lists.proofs.sums.Totals.{sumOver-le}
 use Rattle.lists.proofs.members.FlatMap.{length-flatMap-le}
 use Rattle.text.proofs.Decimal.{decimal-length}
-use Rattle.writing.proofs.Lengths.{spaced, length-spacedNumbers, length-group, sumOver-spaced}
+use Rattle.text.proofs.Spaced.{spaced, length-spacedNumbers, sumOver-spaced}
+use Rattle.writing.proofs.Lengths.{length-group}
 use Rattle.sheet.specs.Limits.{mostItems, sumDigits}
 use Rattle.printed_lines.specs.PrintedLines.{headLine, pileGroup, amounts, cutPile, cutGroup, yardLine, allLines}
 

@@ -9,7 +9,7 @@ use lib.ListN.{length}
 use Rattle.lists.specs.Lists.{range}
 use Rattle.lists.specs.Sums.{total, sumOver}
 use Rattle.lists.proofs.ranges.Ranges.{range-bounds}
-use Rattle.writing.proofs.Lengths.{spaced}
+use Rattle.text.proofs.Spaced.{spaced}
 use Rattle.sheet.specs.Limits.{mostAgents, mostItems, sumDigits}
 use Rattle.printed_lines.proofs.Lengths.{length-cutGroup, sumOver-spaced-items, length-yardLine, length-allLines}
 use Rattle.division_reading.specs.Stated.{Stated}

@@ -9,7 +9,7 @@ use Rattle.lists.specs.Lists.{range, nth, Within}
 use Rattle.lists.specs.Sums.{total, sumOver}
 use Rattle.lists.proofs.ranges.Ranges.{length-range, range-bounds, within-mem}
 use Rattle.lists.proofs.members.Distinct.{range-distinct}
-use Rattle.writing.proofs.Lengths.{spaced, length-spacedNumbers, sumOver-spaced}
+use Rattle.text.proofs.Spaced.{spaced, length-spacedNumbers, sumOver-spaced}
 use Rattle.sheet.specs.Limits.{mostAgents, mostItems, sumDigits}
 use Rattle.sheet.specs.Valuations.{value}
 use Rattle.sheet.specs.Tables.{valuation}

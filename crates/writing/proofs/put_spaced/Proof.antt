@@ -5,9 +5,9 @@ use native.Mathlib.Omega.{arith}
 use lib.ListN.{length, take}
 use lib.Seq.{take-length}
 use Rattle.text.specs.Decimal.{spacedNumbers}
+use Rattle.text.proofs.Spaced.{spacedNumbers-next}
 use Rattle.writing.specs.Output.{output, Written}
 use Rattle.writing.proofs.Written.{nothing, _then_}
-use Rattle.writing.proofs.Spaced.{spacedNumbers-next}
 use Rattle.writing.proofs.put_spaced.Statement.{statement}
 use Rattle.writing.proofs.put_spaced.Tie as tie
 

@@ -5,12 +5,12 @@ use native.Mathlib.Omega.{arith}
 use lib.ListN.{length, take}
 use borrow.Kind.Array.{eInt, good-length}
 use Rattle.text.specs.Decimal.{spacedNumbers}
+use Rattle.text.proofs.Spaced.{spacedNumbers-next}
 use Rattle.sheet.specs.Limits.{mostItems}
 use Rattle.sheet.proofs.Limits.{markWidth}
 use Rattle.writing.specs.Output.{output, Written}
 use Rattle.writing.proofs.Written.{nothing, _then_}
 use Rattle.lists.proofs.places.Passing.{take-min}
-use Rattle.writing.proofs.Spaced.{spacedNumbers-next}
 use Rattle.strict_writing.proofs.lines.put_marks.Statement.{statement}
 use Rattle.strict_writing.proofs.lines.put_marks.Tie as tie
 
