@@ -1,5 +1,4 @@
--- Sets of items: their bits, their parts, and what these are worth.
-pub mod Bits
+-- Parts of a set of items, and what these are worth.
 pub mod Parts
 pub mod Values
 pub mod Named

@@ -1,4 +1,4 @@
--- Sets of items.
+-- Sets of items, and their bits.
 pub mod Sets
 pub mod Items
 pub mod Ranges
@@ -7,3 +7,5 @@ pub mod Remainders
 pub mod AllItems
 pub mod Bundles
 pub mod Members
+pub mod Bits
+pub mod Counted

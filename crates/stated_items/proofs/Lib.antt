@@ -1,3 +1,2 @@
--- Laws of items that are each in one bundle, and of sets that name items of the sheet only.
-mod Bits
+-- Laws of sets that name items of the sheet only.
 mod OfSheet

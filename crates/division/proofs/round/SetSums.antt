@@ -1,20 +1,16 @@
 -- The sets of the bundles that are handed out, and the set of what is left. Assumes nothing.
-use mathlib.Core.Path.{_≡_, refl, sym, ap, ap₂, _∙_}
+use mathlib.Core.Path.{_≡_, sym, ap₂, _∙_}
 use mathlib.Core.Bool.{true, not}
-use mathlib.Core.List.{List, [], _∷_}
+use mathlib.Core.List.{List}
 use Prim.Native.Nat.{ℕ, _+_, _-_, _^_}
 use lib.ListN.{length}
 use Rattle.lists.specs.Lists.{elem, distinct}
 use Rattle.lists.specs.Sums.{sumOver}
 use Rattle.lists.proofs.sums.Totals.{sumOver-cong}
 use Rattle.sheet.specs.Sets.{setOf}
+use Rattle.sheet.proofs.sets.Bits.{setOf-sum}
 use Rattle.bundling.specs.Bundles.{itemsIn, bundle}
 use Rattle.bundling.proofs.Sums.{sumOver-handed}
-
--- a set as a sum over its items
-setOf-sum : (ks : List ℕ) → setOf ks ≡ sumOver (λ k. 2 ^ (k - 1)) ks
-setOf-sum [] = refl
-setOf-sum (k ∷ ks) = ap (λ s. 2 ^ (k - 1) + s) (setOf-sum ks)
 
 -- the sets of the bundles handed out and the set of the items left are the set of all items
 pub setOf-handed : (chosen ks l : List ℕ) → distinct chosen ≡ true → length l ≡ length ks

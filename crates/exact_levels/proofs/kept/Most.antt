@@ -11,11 +11,12 @@ use Rattle.sheet.specs.Limits.{mostItems}
 use Rattle.sheet.specs.Sets.{itemsOf}
 use Rattle.sheet.specs.Valuations.{value}
 use Rattle.sheet.proofs.sets.Sets.{halved}
+use Rattle.sheet.proofs.sets.Bits.{named-le}
+use Rattle.sheet.proofs.valuing.SetValues.{value-item}
 use Rattle.exact_levels.specs.Parts.{IsPart}
 use Rattle.exact_levels.specs.internal.Keeping.{bonusIf, keptOf, IsMost}
-use Rattle.exact_levels.proofs.sets.Bits.{even-bit, named-le}
 use Rattle.exact_levels.proofs.sets.Parts.{part-refl, part-trans, part-without, part-named, without-named}
-use Rattle.exact_levels.proofs.sets.Values.{value-split, value-item}
+use Rattle.exact_levels.proofs.sets.Values.{value-split}
 
 module _ (valuation levels : List ℕ) (before set : ℕ) (small : set < 2 ^ mostItems) where
   -- nothing is kept yet
@@ -54,8 +55,8 @@ module _ (valuation levels : List ℕ) (before set : ℕ) (small : set < 2 ^ mos
         lower : (other : ℕ) → IsPart other set → other / 2 ^ (k + 1) ≡ set / 2 ^ (k + 1) → other / 2 ^ k ≡ set / 2 ^ k
         lower other p same =
             ⊎-elim
-            (λ (odd : other / 2 ^ k % 2 ≡ 1). absurd (lacks (part-named set small k low p odd)))
-            (λ even. omega (arith, above other, above set, even-bit (other / 2 ^ k) even, even-bit (set / 2 ^ k) lacks))
+            (λ (odd : other / 2 ^ k % 2 ≡ 1). absurd (lacks (part-named set k low p odd)))
+            (λ even. omega (arith, above other, above set))
             (eq-or-ne (other / 2 ^ k % 2) 1)
 
     -- the set has the item
@@ -79,7 +80,7 @@ module _ (valuation levels : List ℕ) (before set : ℕ) (small : set < 2 ^ mos
             value-split valuation part (set - 2 ^ k) (omega arith) p,
             value-split valuation (set - 2 ^ k) set small without,
             ap (λ s. value valuation (itemsOf s)) rest,
-            value-item valuation k low,
+            value-item valuation k (omega arith),
           )
 
       pub most-with : (most less new : ℕ) → IsMost valuation levels before k set most → IsMost valuation levels before k (set - 2 ^ k) less → new ≡ max most (less + getD valuation k 0)
@@ -91,7 +92,7 @@ module _ (valuation levels : List ℕ) (before set : ℕ) (small : set < 2 ^ mos
               ⊎-elim
               (λ (odd : other / 2 ^ k % 2 ≡ 1). omega (arith, m .greatest other p (omega (arith, above other, above set))))
               (λ lacks. let q = part-without set small k low named lacks p in
-              omega (arith, kept-with other q, l .greatest other q (omega (arith, above other, above set, one-less, even-bit (other / 2 ^ k) lacks))))
+              omega (arith, kept-with other q, l .greatest other q (omega (arith, above other, above set, one-less))))
               (eq-or-ne (other / 2 ^ k % 2) 1)
 
           without-item : less + getD valuation k 0 ≤ most → IsMost valuation levels before (k + 1) set new

@@ -9,7 +9,7 @@ use Rattle.lists.proofs.places.Stores.{stored-each}
 use Rattle.sheet.specs.Limits.{mostItems}
 use Rattle.shares.proofs.Marks.{marks-small}
 use Rattle.exact_levels.specs.internal.Keeping.{levelWith}
-use Rattle.exact_levels.proofs.sets.Values.{value-small}
+use Rattle.sheet.proofs.valuing.SetValues.{value-set-small}
 use Rattle.exact_levels.proofs.kept.Staged.{few-sets}
 use Rattle.exact_levels.proofs.raise.Statement.{statement}
 use Rattle.exact_levels.proofs.raise.Tie as tie
@@ -79,7 +79,7 @@ returns c =
     let s = c .before .before .before .before in
     record {
       places = l .inv .places;
-      light = value-small (s .args .valuation) (marks-small mostItems (s .args .valuation) _ (s .good .0));
+      light = value-set-small (s .args .valuation) (marks-small mostItems (s .args .valuation) _ (s .good .0));
       each = λ set lt. record { most = getD (m .result) set 0; is-most = m .ensures set lt; raised = l .inv .done set (omega arith) };
       behind = λ set le. l .inv .same set (omega (arith, l .inv .within));
     }

@@ -1,12 +1,10 @@
 -- The test of a part, item by item. Assumes nothing.
-use mathlib.Core.Path.{_≡_, refl, sym, ap, subst}
+use mathlib.Core.Path.{_≡_, refl, sym, subst}
 use mathlib.Core.Bool.{Bool, true, false, not, _||_, true≢false}
 use mathlib.Core.Logic.{⊎-elim}
 use mathlib.Core.List.{List·Memᴰ as Mem}
 use Prim.Native.Nat.{ℕ, _+_, _/_, _%_, _^_, _≤_, _<_}
-use native.Mathlib.Nat.{add-sub-cancel}
 use native.Mathlib.Omega.{arith}
-use lib.Dec.{eqb}
 use borrow.Author.Tests.{eq-eqb, ne-eqb}
 use Rattle.lists.specs.Lists.{range}
 use Rattle.lists.proofs.Cases.{eq-or-ne}
@@ -14,6 +12,7 @@ use Rattle.lists.proofs.members.Counting.{mem-all, all-mem, filter-mem, filter-
 use Rattle.sheet.specs.Limits.{mostItems, setBits}
 use Rattle.sheet.specs.Sets.{names, itemsOf}
 use Rattle.sheet.proofs.sets.Items.{setOf-items}
+use Rattle.sheet.proofs.sets.Bits.{names-bit}
 use Rattle.exact_levels.specs.Parts.{IsPart, isPart}
 use Rattle.exact_levels.proofs.sets.Parts.{some-part}
 
@@ -22,20 +21,17 @@ abbrev pub namedIn : ℕ → ℕ → ℕ → Bool
 namedIn part set k = not (names part k) || names set k
 
 module _ (part set i : ℕ) where
-  place : (x : ℕ) → names x (i + 1) ≡ eqb (x / 2 ^ i % 2) 1
-  place x = ap (λ k. eqb (x / 2 ^ k % 2) 1) (add-sub-cancel i 1)
-
   -- item i + 1 is in the set, or not in the part
   pub named-next : part / 2 ^ i % 2 ≤ set / 2 ^ i % 2 → namedIn part set (i + 1) ≡ true
   named-next le =
       ⊎-elim
-      (λ (e : part / 2 ^ i % 2 ≡ 1). rw (place part, place set, eq-eqb (part / 2 ^ i % 2) 1 e) (eq-eqb (set / 2 ^ i % 2) 1 (omega arith)))
-      (λ ne. rw (place part, ne-eqb (part / 2 ^ i % 2) 1 ne))
+      (λ (e : part / 2 ^ i % 2 ≡ 1). rw (names-bit part i, names-bit set i, eq-eqb (part / 2 ^ i % 2) 1 e) (eq-eqb (set / 2 ^ i % 2) 1 (omega arith)))
+      (λ ne. rw (names-bit part i, ne-eqb (part / 2 ^ i % 2) 1 ne))
       (eq-or-ne (part / 2 ^ i % 2) 1)
 
   -- item i + 1 is in the part, and not in the set
   pub named-fails : set / 2 ^ i % 2 < part / 2 ^ i % 2 → namedIn part set (i + 1) ≡ false
-  named-fails lt = rw (place part, place set, eq-eqb (part / 2 ^ i % 2) 1 (omega arith), ne-eqb (set / 2 ^ i % 2) 1 (λ e. omega arith))
+  named-fails lt = rw (names-bit part i, names-bit set i, eq-eqb (part / 2 ^ i % 2) 1 (omega arith), ne-eqb (set / 2 ^ i % 2) 1 (λ e. omega arith))
 
 module _ (part set : ℕ) where
   pub part-isPart : IsPart part set → isPart part set ≡ true

@@ -6,15 +6,14 @@ use Prim.Native.Nat.{ℕ, _+_, _-_, _/_, _%_, _^_, _<_}
 use native.Mathlib.Nat.{add-sub-cancel}
 use native.Mathlib.Omega.{arith}
 use Rattle.lists.specs.Sums.{sumOver}
-use Rattle.lists.proofs.ranges.Ranges.{range-sublist}
 use Rattle.lists.proofs.members.Counting.{sublist-mem}
 use Rattle.lists.proofs.members.WithoutOne.{At, mem-at, without-sublist, sublist-without, left-out}
-use Rattle.sheet.specs.Limits.{mostItems, setBits}
+use Rattle.sheet.specs.Limits.{mostItems}
 use Rattle.sheet.specs.Sets.{itemsOf, setOf}
-use Rattle.sheet.proofs.sets.Sets.{items-setOf}
-use Rattle.sheet.proofs.sets.Items.{items-sublist, setOf-items, setOf-append}
+use Rattle.sheet.proofs.sets.Sets.{items-some}
+use Rattle.sheet.proofs.sets.Items.{setOf-items, setOf-append}
+use Rattle.sheet.proofs.sets.Bits.{setOf-sum, mem-named, named-in}
 use Rattle.exact_levels.specs.Parts.{IsPart}
-use Rattle.exact_levels.proofs.sets.Bits.{setOf-sum, mem-named, named-in}
 
 pub part-refl : (set : ℕ) → IsPart set set
 part-refl set = record { below = omega arith; some-items = sublist-refl (itemsOf set) }
@@ -22,18 +21,18 @@ part-refl set = record { below = omega arith; some-items = sublist-refl (itemsOf
 pub part-trans : {a b c : ℕ} → IsPart a b → IsPart b c → IsPart a c
 part-trans p q = record { below = omega (arith, p .below, q .below); some-items = sublist-trans (p .some-items) (q .some-items) }
 
-module _ (set : ℕ) (small : set < 2 ^ mostItems) where
-  -- the items of the set of some of the items
-  pub items-some : {ks : List ℕ} → Sublist ks (itemsOf set) → itemsOf (setOf ks) ≡ ks
-  items-some {ks} s = items-setOf ks (sublist-trans s (sublist-trans (items-sublist set mostItems small (omega arith)) (range-sublist 1 mostItems setBits (omega arith))))
+-- what a part names the set names
+pub part-named : {part : ℕ} (set i : ℕ) → i < mostItems → IsPart part set → part / 2 ^ i % 2 ≡ 1 → set / 2 ^ i % 2 ≡ 1
+part-named {part} set i low p odd = mem-named set i (sublist-mem (p .some-items) (named-in part i (omega arith) odd))
 
+module _ (set : ℕ) (small : set < 2 ^ mostItems) where
   -- some of the items make a part
   pub some-part : {ks : List ℕ} → Sublist ks (itemsOf set) → IsPart (setOf ks) set
   some-part {ks} s =
       let r = left-out s in
       record {
         below = omega (arith, r .sums (λ k. 2 ^ (k - 1)), setOf-sum ks, setOf-sum (itemsOf set), setOf-items set mostItems small (omega arith));
-        some-items = subst (λ l. Sublist l (itemsOf set)) (sym (items-some s)) s;
+        some-items = subst (λ l. Sublist l (itemsOf set)) (sym (items-some set s)) s;
       }
 
   -- a part and the rest, which is a part too
@@ -56,7 +55,7 @@ module _ (set : ℕ) (small : set < 2 ^ mostItems) where
       ) in
       record {
         rest-part = subst (λ k. IsPart k set) rest (some-part (r .rest-sub));
-        sums = λ w. r .sums w ∙ ap (λ l. sumOver w (itemsOf part) + sumOver w l) (sym (items-some (r .rest-sub)) ∙ ap itemsOf rest);
+        sums = λ w. r .sums w ∙ ap (λ l. sumOver w (itemsOf part) + sumOver w l) (sym (items-some set (r .rest-sub)) ∙ ap itemsOf rest);
       }
 
   -- the set without the item at a place
@@ -76,15 +75,15 @@ module _ (set : ℕ) (small : set < 2 ^ mostItems) where
   -- the set without an item that it names is a part
   pub without-named : (i : ℕ) → i < mostItems → set / 2 ^ i % 2 ≡ 1 → IsPart (set - 2 ^ i) set
   without-named i low odd =
-      let a = mem-at (itemsOf set) (named-in set small i low odd) in
+      let a = mem-at (itemsOf set) (named-in set i (omega arith) odd) in
       subst (λ k. IsPart k set) (without-at a ∙ ap (λ k. set - 2 ^ k) (add-sub-cancel i 1)) (some-part (without-at-sublist a))
 
   -- a part that lacks an item that the set names is a part of the set without it
   pub part-without : {part : ℕ} (i : ℕ) → i < mostItems → set / 2 ^ i % 2 ≡ 1 → (part / 2 ^ i % 2 ≡ 1 → ⊥) → IsPart part set → IsPart part (set - 2 ^ i)
   part-without {part} i low odd lacks p =
-      let a = mem-at (itemsOf set) (named-in set small i low odd) in
+      let a = mem-at (itemsOf set) (named-in set i (omega arith) odd) in
       let less : setOf (a .front ++ a .back) ≡ set - 2 ^ i = without-at a ∙ ap (λ k. set - 2 ^ k) (add-sub-cancel i 1) in
-      let lists : itemsOf (set - 2 ^ i) ≡ a .front ++ a .back = ap itemsOf (sym less) ∙ items-some (without-at-sublist a) in
+      let lists : itemsOf (set - 2 ^ i) ≡ a .front ++ a .back = ap itemsOf (sym less) ∙ items-some set (without-at-sublist a) in
       let still : Sublist (itemsOf part) (a .front ++ a .back) =
       sublist-without (a .front) (i + 1) (a .back) (subst (λ l. Sublist (itemsOf part) l) (a .parts) (p .some-items)) (λ m. lacks (mem-named part i m)) in
       record {
@@ -98,7 +97,3 @@ module _ (set : ℕ) (small : set < 2 ^ mostItems) where
         );
         some-items = subst (λ l. Sublist (itemsOf part) l) (sym lists) still;
       }
-
-  -- what a part names the set names
-  pub part-named : {part : ℕ} (i : ℕ) → i < mostItems → IsPart part set → part / 2 ^ i % 2 ≡ 1 → set / 2 ^ i % 2 ≡ 1
-  part-named {part} i low p odd = mem-named set i (sublist-mem (p .some-items) (named-in part (omega (arith, p .below)) i low odd))

@@ -21,6 +21,7 @@ use Rattle.sheet.specs.Sets.{itemsOf, setOf}
 use Rattle.sheet.specs.Valuations.{value}
 use Rattle.sheet.specs.Tables.{valuation}
 use Rattle.sheet.proofs.sets.Sets.{items-setOf}
+use Rattle.sheet.proofs.sets.Bits.{setOf-sum}
 use Rattle.sheet.proofs.sets.Ranges.{setOf-below}
 use Rattle.shares.specs.Shares.{shareOf}
 use Rattle.bundling.specs.Bundles.{itemsIn, bundle}
@@ -28,7 +29,6 @@ use Rattle.bundling.proofs.Bundles.{itemsIn-sublist}
 use Rattle.exact_division.specs.Exact.{hasShare, isExact, bundlesBy, exactExists}
 use Rattle.exact_division.proofs.Existence.{exists-giving}
 use Rattle.exact_levels.specs.Serving.{Serves}
-use Rattle.exact_levels.proofs.sets.Bits.{setOf-sum}
 use Rattle.exact_levels.proofs.sets.Parts.{some-part}
 
 -- the items of bundles that pass one test are some of those of bundles that pass a weaker one

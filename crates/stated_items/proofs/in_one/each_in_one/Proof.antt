@@ -13,8 +13,8 @@ use Rattle.lists.specs.Lists.{range, all, count, elem}
 use Rattle.lists.proofs.members.Tests.{all-next, all-fails}
 use Rattle.sheet.specs.Limits.{mostItems}
 use Rattle.sheet.specs.Sets.{itemsOf}
+use Rattle.sheet.proofs.sets.Counted.{hasBit, count-naming}
 use Rattle.stated_truth.specs.Truth.{eachInOne}
-use Rattle.stated_items.proofs.Bits.{hasBit, count-naming}
 use Rattle.stated_items.proofs.in_one.each_in_one.Statement.{statement}
 use Rattle.stated_items.proofs.in_one.each_in_one.Tie as tie
 

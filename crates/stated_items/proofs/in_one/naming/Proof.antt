@@ -7,7 +7,7 @@ use mir.Syntax.{w16}
 use borrow.Kind.Array.{good-length, eInt}
 use Rattle.lists.specs.Lists.{count}
 use Rattle.sheet.specs.Limits.{mostAgents}
-use Rattle.stated_items.proofs.Bits.{hasBit, count-next}
+use Rattle.sheet.proofs.sets.Counted.{hasBit, count-next}
 use Rattle.stated_items.proofs.in_one.naming.Statement.{statement}
 use Rattle.stated_items.proofs.in_one.naming.Tie as tie
 

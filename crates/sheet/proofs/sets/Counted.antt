@@ -4,7 +4,6 @@ use mathlib.Core.Bool.{Bool}
 use mathlib.Core.Logic.{⊎-elim}
 use mathlib.Core.List.{List, [], _∷_, map}
 use Prim.Native.Nat.{ℕ, _+_, _/_, _%_, _^_, _<_}
-use native.Mathlib.Nat.{add-sub-cancel}
 use native.Mathlib.Omega.{arith}
 use lib.Dec.{eqb}
 use lib.ListN.{length, take, getD}
@@ -14,9 +13,10 @@ use Rattle.lists.proofs.Cases.{eq-or-ne}
 use Rattle.lists.proofs.places.Passing.{take-next}
 use Rattle.lists.proofs.members.Counting.{count-map, count-append}
 use Rattle.lists.proofs.members.Congruence.{count-cong}
 use Rattle.sheet.specs.Limits.{mostItems}
 use Rattle.sheet.specs.Sets.{itemsOf}
 use Rattle.sheet.proofs.sets.Members.{elem-items}
+use Rattle.sheet.proofs.sets.Bits.{names-bit}
 
 -- whether a set has the bit
 abbrev pub hasBit : ℕ → ℕ → Bool
@@ -27,7 +27,7 @@ pub count-naming : (sets : List ℕ) (i : ℕ) → i < mostItems → count (elem
 count-naming sets i low =
     count-map (elem (i + 1)) itemsOf sets
     ∙ count-cong (λ set. elem (i + 1) (itemsOf set)) (hasBit (2 ^ i)) sets
-    (λ set m. elem-items set (i + 1) (omega arith) (omega arith) ∙ ap (λ k. hasBit (2 ^ k) set) (add-sub-cancel i 1))
+    (λ set m. elem-items set (i + 1) (omega arith) (omega arith) ∙ names-bit set i)
 
 bit-odd : (x : ℕ) → bit (eqb (x % 2) 1) ≡ x % 2
 bit-odd x = ⊎-elim (λ (e : x % 2 ≡ 1). rw (eq-eqb (x % 2) 1 e) (sym e)) (λ ne. rw (ne-eqb (x % 2) 1 ne) (omega arith)) (eq-or-ne (x % 2) 1)
