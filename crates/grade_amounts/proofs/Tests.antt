@@ -1,6 +1,6 @@
 -- The three tests of the grade by amounts compared agent by agent. Assumes nothing.
 use mathlib.Core.Path.{_≡_, refl, sym, _∙_}
-use mathlib.Core.List.{List, [], List·Memᴰ as Mem}
+use mathlib.Core.List.{List, List·Memᴰ as Mem}
 use Prim.Native.Nat.{ℕ}
 use Rattle.lists.specs.Lists.{range, nth}
 use Rattle.lists.proofs.sums.GreatestOf.{leb-greatestOf}
@@ -29,23 +29,22 @@ module _ (n : ℕ) (valuations bundles : List (List ℕ)) where
   unfolding compared
   totals-read i m = nth-padded-range mostAgents 0 0 (totalValue n valuations bundles) n m
 
-  module _ (shares : List ℕ) where
-    -- no envy: the greatest value that an agent sees is at most that of its own bundle
-    pub envyFree-compared : envyFree n valuations shares bundles ≡ eachAtMost (compared n valuations bundles .greatest) (compared n valuations bundles .own) n
-    unfolding envyFree
-    envyFree-compared =
-        let c = compared n valuations bundles in
-        sym (eachAtMost-all (c .greatest) (c .own) (greatestValue n valuations bundles) (ownValue n valuations bundles) n greatest-read own-read
-        ∙ all-cong _ _ (range 1 n) (λ i m. leb-greatestOf (valueTo n valuations [] bundles i) n (ownValue n valuations bundles i)))
+  -- no envy: the greatest value that an agent sees is at most that of its own bundle
+  pub envyFree-compared : envyFree n valuations bundles ≡ eachAtMost (compared n valuations bundles .greatest) (compared n valuations bundles .own) n
+  unfolding envyFree
+  envyFree-compared =
+      let c = compared n valuations bundles in
+      sym (eachAtMost-all (c .greatest) (c .own) (greatestValue n valuations bundles) (ownValue n valuations bundles) n greatest-read own-read
+      ∙ all-cong _ _ (range 1 n) (λ i m. leb-greatestOf (valueTo valuations bundles i) n (ownValue n valuations bundles i)))
 
-    -- even: its total is at most the number of agents times that
-    pub proportional-compared : proportional n valuations shares bundles ≡ eachAtMost (compared n valuations bundles .totals) (compared n valuations bundles .multiples) n
-    unfolding proportional
-    proportional-compared =
-        let c = compared n valuations bundles in
-        sym (eachAtMost-all (c .totals) (c .multiples) (totalValue n valuations bundles) (multipleOfOwn n valuations bundles) n totals-read multiples-read)
+  -- even: its total is at most the number of agents times that
+  pub proportional-compared : proportional n valuations bundles ≡ eachAtMost (compared n valuations bundles .totals) (compared n valuations bundles .multiples) n
+  unfolding proportional
+  proportional-compared =
+      let c = compared n valuations bundles in
+      sym (eachAtMost-all (c .totals) (c .multiples) (totalValue n valuations bundles) (multipleOfOwn n valuations bundles) n totals-read multiples-read)
 
-    -- the whole share: its share is at most that
-    pub maximinFair-compared : maximinFair n valuations shares bundles ≡ eachAtMost shares (compared n valuations bundles .own) n
-    unfolding maximinFair
-    maximinFair-compared = sym (eachAtMost-all shares (compared n valuations bundles .own) (nth 0 shares) (ownValue n valuations bundles) n (λ i m. refl) own-read)
+  -- the whole share: its share is at most that
+  pub maximinFair-compared : (shares : List ℕ) → maximinFair n valuations shares bundles ≡ eachAtMost shares (compared n valuations bundles .own) n
+  unfolding maximinFair
+  maximinFair-compared shares = sym (eachAtMost-all shares (compared n valuations bundles .own) (nth 0 shares) (ownValue n valuations bundles) n (λ i m. refl) own-read)

@@ -1,5 +1,5 @@
 -- What the tests of the grade compare, for each agent. Assumes nothing: these are definitions.
-use mathlib.Core.List.{List, [], map}
+use mathlib.Core.List.{List, map}
 use Prim.Native.Nat.{ℕ, _*_}
 use Rattle.lists.specs.Lists.{range, padded}
 use Rattle.lists.specs.Sums.{total, greatestOf}
@@ -11,11 +11,11 @@ use Rattle.grade_amounts.specs.declared.Compared.{Compared}
 module _ (n : ℕ) (valuations bundles : List (List ℕ)) where
   -- the value of agent i's own bundle
   abbrev pub ownValue : ℕ → ℕ
-  ownValue i = valueTo n valuations [] bundles i i
+  ownValue i = valueTo valuations bundles i i
 
   -- the greatest value that agent i sees in any bundle
   abbrev pub greatestValue : ℕ → ℕ
-  greatestValue i = greatestOf (valueTo n valuations [] bundles i) n
+  greatestValue i = greatestOf (valueTo valuations bundles i) n
 
   -- n times the value of agent i's own bundle
   abbrev pub multipleOfOwn : ℕ → ℕ

@@ -30,18 +30,18 @@ pub grade-bounds : (n : ℕ) (rows : List (List ℕ)) (shares : List ℕ) (margi
     → (1 ≤ grade n rows shares margins bundles) × (grade n rows shares margins bundles ≤ 5)
 unfolding grade
 grade-bounds n rows shares margins bundles =
-    first-bounds (envyFree n rows shares bundles) (proportional n rows shares bundles) (maximinFair n rows shares bundles) (noneNegative n margins)
+    first-bounds (envyFree n rows bundles) (proportional n rows bundles) (maximinFair n rows shares bundles) (noneNegative n margins)
 
 -- the bundles, the shares and the margins may be written otherwise, if each agent's are the same
 module _ (n : ℕ) (rows : List (List ℕ)) (shares shares′ : List ℕ) (margins margins′ : List ℤ) (bundles bundles′ : List (List ℕ))
     (same-shares : (i : ℕ) → Mem i (range 1 n) → nth 0 shares i ≡ nth 0 shares′ i)
     (same-margins : (i : ℕ) → Mem i (range 1 n) → nth (pos 0) margins i ≡ nth (pos 0) margins′ i)
     (same-bundles : (i : ℕ) → Mem i (range 1 n) → nth [] bundles i ≡ nth [] bundles′ i) where
-  envyFree-cong : envyFree n rows shares bundles ≡ envyFree n rows shares′ bundles′
+  envyFree-cong : envyFree n rows bundles ≡ envyFree n rows bundles′
   unfolding envyFree
   envyFree-cong = all-cong _ _ (range 1 n) (λ i mi. all-cong _ _ (range 1 n) (λ j mj. rw (same-bundles j mj, same-bundles i mi)))
 
-  proportional-cong : proportional n rows shares bundles ≡ proportional n rows shares′ bundles′
+  proportional-cong : proportional n rows bundles ≡ proportional n rows bundles′
   unfolding proportional
   proportional-cong = all-cong _ _ (range 1 n) (λ i mi. rw (same-bundles i mi))
 

@@ -34,7 +34,7 @@ module _ (n m : ℕ) (table bundles : List (List ℕ)) where
 
   -- what agent i's valuation says of agent j's bundle
   abbrev seen : ℕ → ℕ → ℕ
-  seen = valueTo n rows [] bundles
+  seen = valueTo rows bundles
 
   module _ (allocates : Allocates n m bundles) where
     -- all items are worth no more than the bundles together, since each item is in one
@@ -51,9 +51,9 @@ module _ (n m : ℕ) (table bundles : List (List ℕ)) where
         )
 
     -- the n bundles that an agent sees are each worth at most its own, and together they are worth all items
-    pub envyFree-proportional : (shares : List ℕ) → envyFree n rows shares bundles ≡ true → proportional n rows shares bundles ≡ true
+    pub envyFree-proportional : envyFree n rows bundles ≡ true → proportional n rows bundles ≡ true
     unfolding envyFree proportional
-    envyFree-proportional shares free = mem-all _ (range 1 n) (λ i mi. le-leb _ _ (even i mi))
+    envyFree-proportional free = mem-all _ (range 1 n) (λ i mi. le-leb _ _ (even i mi))
       where
         most : (i : ℕ) → Mem i (range 1 n) → (j : ℕ) → Mem j (range 1 n) → 1 * seen i j ≤ seen i i
         most i mi j mj = omega (arith, leb-true (seen i j) (seen i i) (all-mem _ (all-mem _ free mi) mj))
@@ -62,7 +62,7 @@ module _ (n m : ℕ) (table bundles : List (List ℕ)) where
         even i mi = omega (arith, total-le-bundles i mi, sumOver-le (seen i) 1 (seen i i) (range 1 n) (most i mi), ap (λ k. k * seen i i) (length-range 1 n))
 
   -- n times the share is at most the total, and so at most n times the value of the bundle; whatever the bundles are
-  pub proportional-maximinFair : proportional n rows (sharesOf n m table) bundles ≡ true → maximinFair n rows (sharesOf n m table) bundles ≡ true
+  pub proportional-maximinFair : proportional n rows bundles ≡ true → maximinFair n rows (sharesOf n m table) bundles ≡ true
   unfolding proportional maximinFair
   proportional-maximinFair even = mem-all _ (range 1 n) (λ i mi. le-leb _ _ (whole i mi))
     where

@@ -1,6 +1,6 @@
 -- No margin is below zero exactly where each bundle is worth the part of the share that is promised. Assumes nothing.
 use mathlib.Core.Path.{_≡_, ap, _∙_}
-use mathlib.Core.List.{List, []}
+use mathlib.Core.List.{List}
 use Prim.Native.Nat.{ℕ, _*_}
 use lib.Dec.{leb}
 use lib.IntN.{pos}
@@ -16,9 +16,9 @@ use Rattle.grades.specs.Grade.{ownValues, valueTo}
 module _ (n : ℕ) (terms : Terms) (valuations bundles : List (List ℕ)) (shares : List ℕ) where
   -- by the value of each agent's own bundle
   pub noneNegative-own : noneNegative n (marginsOf n terms (ownValues n valuations bundles) shares)
-      ≡ all (λ i. leb (terms .top * nth 0 shares i) (terms .bottom * valueTo n valuations [] bundles i i)) (range 1 n)
+      ≡ all (λ i. leb (terms .top * nth 0 shares i) (terms .bottom * valueTo valuations bundles i i)) (range 1 n)
   noneNegative-own =
-      let own : ℕ → ℕ = λ i. valueTo n valuations [] bundles i i in
+      let own : ℕ → ℕ = λ i. valueTo valuations bundles i i in
       all-cong _ _ (range 1 n)
       (λ i mi.
       ap nonNeg (nth-map-range (λ i. margin terms (nth 0 (ownValues n valuations bundles) i) (nth 0 shares i)) (pos 0) n mi)

@@ -43,11 +43,11 @@ module _ (n m : ℕ) (table bundles : List (List ℕ)) (allocates : Allocates n 
   unfolding grade
   passes-from-grade =
       nth-from-first
-      (envyFree n (profile n m table) (sharesOf n m table) bundles)
-      (proportional n (profile n m table) (sharesOf n m table) bundles)
+      (envyFree n (profile n m table) bundles)
+      (proportional n (profile n m table) bundles)
       (maximinFair n (profile n m table) (sharesOf n m table) bundles)
       (noneNegative n (marginsByTable n m table bundles))
-      (envyFree-proportional n m table bundles allocates (sharesOf n m table))
+      (envyFree-proportional n m table bundles allocates)
       (proportional-maximinFair n m table bundles)
       (maximinFair-noneNegative n m table bundles (sharesOf n m table))
 

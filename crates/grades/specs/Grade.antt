@@ -13,32 +13,32 @@ use Rattle.sheet.specs.Valuations.{value}
 use Rattle.sheet.specs.Tables.{valuation, profile}
 use Rattle.margins.specs.Margins.{noneNegative}
 
--- the worth of each agent's own bundle (pile), by its valuation
-abbrev pub ownValues : ℕ → List (List ℕ) → List (List ℕ) → List ℕ
-ownValues n valuations bundles = map (λ i. value (valuation valuations i) (nth [] bundles i)) (range 1 n)
+-- what agent i's valuation says of agent j's bundle
+abbrev pub valueTo : List (List ℕ) → List (List ℕ) → ℕ → ℕ → ℕ
+valueTo valuations bundles i j = value (valuation valuations i) (nth [] bundles j)
 
-module _ (n : ℕ) (valuations : List (List ℕ)) (shares : List ℕ) (bundles : List (List ℕ)) where
-  -- what agent i's valuation says of agent j's bundle
-  abbrev pub valueTo : ℕ → ℕ → ℕ
-  valueTo i j = value (valuation valuations i) (nth [] bundles j)
+module _ (n : ℕ) (valuations bundles : List (List ℕ)) where
+  -- the worth of each agent's own bundle (pile), by its valuation
+  abbrev pub ownValues : List ℕ
+  ownValues = map (λ i. valueTo valuations bundles i i) (range 1 n)
 
   -- "no yard counts another's pile as worth more than its own"
   unfoldable pub envyFree : Bool
-  envyFree = all (λ i. all (λ j. leb (valueTo i j) (valueTo i i)) (range 1 n)) (range 1 n)
+  envyFree = all (λ i. all (λ j. leb (valueTo valuations bundles i j) (valueTo valuations bundles i i)) (range 1 n)) (range 1 n)
 
   -- "a division is even when N times the worth of each pile is at least its yard's total"
   unfoldable pub proportional : Bool
-  proportional = all (λ i. leb (total (valuation valuations i)) (n * valueTo i i)) (range 1 n)
+  proportional = all (λ i. leb (total (valuation valuations i)) (n * valueTo valuations bundles i i)) (range 1 n)
 
-  -- "each pile reaches its yard's whole maximin share"
-  unfoldable pub maximinFair : Bool
-  maximinFair = all (λ i. leb (nth 0 shares i) (valueTo i i)) (range 1 n)
+-- "each pile reaches its yard's whole maximin share"
+unfoldable pub maximinFair : ℕ → List (List ℕ) → List ℕ → List (List ℕ) → Bool
+maximinFair n valuations shares bundles = all (λ i. leb (nth 0 shares i) (valueTo valuations bundles i i)) (range 1 n)
 
 -- "the first that fits", with the agents' margins: "4 now needs every margin to be zero or more, and 5 is the rest"
 unfoldable pub grade : ℕ → List (List ℕ) → List ℕ → List ℤ → List (List ℕ) → ℕ
 grade n valuations shares margins bundles =
-    cond (envyFree n valuations shares bundles) 1
-    (cond (proportional n valuations shares bundles) 2
+    cond (envyFree n valuations bundles) 1
+    (cond (proportional n valuations bundles) 2
     (cond (maximinFair n valuations shares bundles) 3
     (cond (noneNegative n margins) 4 5)))
 

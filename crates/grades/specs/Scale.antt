@@ -23,8 +23,8 @@ module _ (n m : ℕ) (table : List (List ℕ)) where
     -- "the tests for" 1, 2, 3 and 4: no envy, even, the whole share, no margin below zero
     abbrev pub tests : List Bool
     tests =
-        envyFree n (profile n m table) sharesOf bundles
-        ∷ proportional n (profile n m table) sharesOf bundles
+        envyFree n (profile n m table) bundles
+        ∷ proportional n (profile n m table) bundles
         ∷ maximinFair n (profile n m table) sharesOf bundles
         ∷ noneNegative n marginsByTable
         ∷ []

@@ -40,7 +40,7 @@ module _ (n m : ℕ) (table : List (List ℕ)) (shares : List ℕ) (shared : Sha
     worth-by-table {i} mi =
         nth-worthsIn n m table sets (counts-in-use (shared .counts)) mi
         ∙ ap (value (valuation (profile n m table) i)) (same i mi)
-        ∙ sym (nth-map-range (λ k. valueTo n (profile n m table) [] bundles k k) 0 n mi)
+        ∙ sym (nth-map-range (λ k. valueTo (profile n m table) bundles k k) 0 n mi)
 
     module _ (worths : List ℕ) (own : worths ≡ worthsIn n m table sets) (small : SmallAmounts worths) where
       margin-by-table : (i : ℕ) → Mem i (range 1 n)

@@ -158,7 +158,7 @@ module _ (n m : ℕ) (table : List (List ℕ)) (counts : CountsWithin n m) where
         ap (λ l. nth 0 l i) same-worths
         ∙ nth-worthsIn n m table placedSets in-use mi
         ∙ ap (value (valuation rows i)) (bundle-read i)
-        ∙ sym (nth-map-range (λ k. valueTo n rows [] bundles k k) 0 n mi)
+        ∙ sym (nth-map-range (λ k. valueTo rows bundles k k) 0 n mi)
 
     margin-read : (i : ℕ) → Mem i (range 1 n)
         → nth (pos 0) (marginsStored n worths placedShares) i ≡ nth (pos 0) (allocationMargins n m (standardInstance n m table)) i

@@ -54,20 +54,20 @@ last-told c = omega (arith, c .before .lesser .ensures)
 -- the four tests
 envy-free : (c : tie.After-each-at-most)
     → let s = start (first c) in
-    envyFree (agentsOf s) (rowsOf s) (s .args .shares) (bundlesOf s) ≡ c .each-at-most .result
+    envyFree (agentsOf s) (rowsOf s) (bundlesOf s) ≡ c .each-at-most .result
 envy-free c =
     let amounts = first c in
     let s = start amounts in
-    envyFree-compared (agentsOf s) (rowsOf s) (bundlesOf s) (s .args .shares)
+    envyFree-compared (agentsOf s) (rowsOf s) (bundlesOf s)
     ∙ sym (c .each-at-most .ensures ∙ ap₂ (λ (r : Compared) n. eachAtMost (r .greatest) (r .own) n) (told amounts) (last-told amounts))
 
 even : (c : tie.After-each-at-most2)
     → let s = start (second c) in
-    proportional (agentsOf s) (rowsOf s) (s .args .shares) (bundlesOf s) ≡ c .each-at-most2 .result
+    proportional (agentsOf s) (rowsOf s) (bundlesOf s) ≡ c .each-at-most2 .result
 even c =
     let amounts = second c in
     let s = start amounts in
-    proportional-compared (agentsOf s) (rowsOf s) (bundlesOf s) (s .args .shares)
+    proportional-compared (agentsOf s) (rowsOf s) (bundlesOf s)
     ∙ sym (c .each-at-most2 .ensures ∙ ap₂ (λ (r : Compared) n. eachAtMost (r .totals) (r .multiples) n) (told amounts) (last-told amounts))
 
 whole-share : (c : tie.After-each-at-most3)
@@ -123,7 +123,7 @@ none-negative-requires c κs = search needs
 
 -- where the first three tests fail, the margins decide
 by-margins : (n : ℕ) (rows : List (List ℕ)) (shares : List ℕ) (margins : List ℤ) (bundles : List (List ℕ))
-    → envyFree n rows shares bundles ≡ false → proportional n rows shares bundles ≡ false → maximinFair n rows shares bundles ≡ false
+    → envyFree n rows bundles ≡ false → proportional n rows bundles ≡ false → maximinFair n rows shares bundles ≡ false
     → grade n rows shares margins bundles ≡ cond (noneNegative n margins) 4 5
 unfolding grade
 by-margins n rows shares margins bundles envied uneven part = rw (envied, uneven, part)
