@@ -1,4 +1,4 @@
--- The maximin share does not depend on the order of the values. Assumes nothing.
+-- The maximin share does not depend on the order of the values: a partition goes with them. Assumes nothing.
 use mathlib.Core.Path.{_≡_, refl, sym, ap, ap₂, _∙_}
 use mathlib.Core.Bool.{cond}
 use mathlib.Core.List.{List, [], _∷_}
@@ -15,43 +15,43 @@ use Rattle.maximin.proofs.Laws.{leastBundle-le-maximinShare, maximinPar
 
 module _ (n : ℕ) where
   -- a partition of ys whose bundles are worth what those of the partition l of xs are
-  record Relaid (xs l ys : List ℕ) : Type 0 where
-    laid : List ℕ
-    within : Within n laid
-    whole : length laid ≡ length ys
-    worth : (c : ℕ) → bundleValue c ys laid ≡ bundleValue c xs l
+  pub record Relaid (xs l ys : List ℕ) : Type 0 where
+    pub laid : List ℕ
+    pub within : Within n laid
+    pub whole : length laid ≡ length ys
+    pub worth : (c : ℕ) → bundleValue c ys laid ≡ bundleValue c xs l
 
   -- the items of the partition change places with the values
-  relay : {xs ys : List ℕ} → Perm xs ys → (l : List ℕ) → Within n l → length l ≡ length xs → Relaid xs l ys
-  relay perm-nil l w e = record { laid = l; within = w; whole = e; worth = λ c. refl }
-  relay (perm-cons {a = a} {b = b} same p) [] w e = absurd (omega arith)
-  relay (perm-cons {a = a} {b = b} same p) (d ∷ l) w e =
-      let r = relay p l (w .2) (omega arith) in
+  pub perm-relaid : {xs ys : List ℕ} → Perm xs ys → (l : List ℕ) → Within n l → length l ≡ length xs → Relaid xs l ys
+  perm-relaid perm-nil l w e = record { laid = l; within = w; whole = e; worth = λ c. refl }
+  perm-relaid (perm-cons {a = a} {b = b} same p) [] w e = absurd (omega arith)
+  perm-relaid (perm-cons {a = a} {b = b} same p) (d ∷ l) w e =
+      let r = perm-relaid p l (w .2) (omega arith) in
       record {
         laid = d ∷ r .laid;
         within = (w .0, w .1, r .within);
         whole = ap suc (r .whole);
         worth = λ c. ap₂ (λ v s. cond (eqb c d) v 0 + s) (sym same) (r .worth c);
       }
-  relay (perm-swap same other) [] w e = absurd (omega arith)
-  relay (perm-swap same other) (d ∷ []) w e = absurd (omega arith)
-  relay (perm-swap {a = a} {b = b} {a′ = a′} {b′ = b′} {l = vs} same other) (d ∷ f ∷ l) w e =
+  perm-relaid (perm-swap same other) [] w e = absurd (omega arith)
+  perm-relaid (perm-swap same other) (d ∷ []) w e = absurd (omega arith)
+  perm-relaid (perm-swap {a = a} {b = b} {a′ = a′} {b′ = b′} {l = vs} same other) (d ∷ f ∷ l) w e =
       record {
         laid = f ∷ d ∷ l;
         within = (w .2 .0, w .2 .1, (w .0, w .1, w .2 .2));
         whole = e;
         worth = λ c. omega (arith, ap (λ v. cond (eqb c d) v 0) same, ap (λ v. cond (eqb c f) v 0) other);
       }
-  relay (perm-trans p q) l w e =
-      let r = relay p l w e in
-      let t = relay q (r .laid) (r .within) (r .whole) in
+  perm-relaid (perm-trans p q) l w e =
+      let r = perm-relaid p l w e in
+      let t = perm-relaid q (r .laid) (r .within) (r .whole) in
       record { laid = t .laid; within = t .within; whole = t .whole; worth = λ c. t .worth c ∙ r .worth c }
 
   maximinShare-le : {xs ys : List ℕ} → 1 ≤ n → Perm xs ys → maximinShare n xs ≤ maximinShare n ys
   maximinShare-le {xs} {ys} some p =
       let l = maximinPartition n xs in
       let w = maximinPartition-within n xs some in
-      let r = relay p l (w .0) (w .1) in
+      let r = perm-relaid p l (w .0) (w .1) in
       omega (
         arith,
         leastBundle-maximinPartition n xs some,

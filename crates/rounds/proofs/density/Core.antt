@@ -1,15 +1,16 @@
 -- The core lemma: numbers that lack little can be split into n groups that all reach the part top / bottom of β. Assumes nothing.
 use mathlib.Core.Path.{_≡_}
 use mathlib.Core.Logic.{⊎-elim, by-cases}
-use mathlib.Core.List.{List, [], _∷_}
+use mathlib.Core.List.{List, [], _∷_, List·Permᴰ as Perm}
 use Prim.Native.Nat.{ℕ, zero, suc, _+_, _*_, _≤_, _<_, zero-le}
 use native.Mathlib.Nat.{le-refl, le-dest, suc-mul, eq-zero-or-pos}
 use native.Mathlib.Decide.{decLe}
 use native.Mathlib.Omega.{arith}
 use lib.ListN.{length}
+use Rattle.lists.proofs.members.Permuted.{length-perm}
 use Rattle.rounds.proofs.density.Deficit.{deficit}
 use Rattle.rounds.proofs.density.Partition.{oneBundle, oneBundle-partition}
-use Rattle.rounds.proofs.density.Sort.{Perm, perm-length, perm-deficit, Ascending, ascending-weaken, next, insert, perm-insert, insert-ascending, sort, perm-sort, sort-ascending}
+use Rattle.rounds.proofs.density.Sort.{perm-deficit, Ascending, ascending-weaken, next, insert, perm-insert, insert-ascending, sort, perm-sort, sort-ascending}
 use Rattle.rounds.proofs.density.Refine.{refines-trans, refines-merge, perm-refines}
 use Rattle.rounds.proofs.density.Terms.{top, bottom, reaches-of-le, not-lacks, not-absent}
 use Rattle.rounds.proofs.density.Splitting.{Splits, PairsReach, pairs-reach, splits-refine, splits-many, splits-pairs}
@@ -24,7 +25,7 @@ pub record Supplied (N β n m e : ℕ) (hs : List ℕ) : Type 0 where
 module _ {N β n m : ℕ} where
   supplied-perm : {e : ℕ} {xs ys : List ℕ} → Perm xs ys → Supplied N β n m e ys → Supplied N β n m e xs
   supplied-perm h s =
-      record { groups = s .groups; few = s .few; count = rw (perm-length h) (s .count); supply = rw (perm-deficit β h) (s .supply) }
+      record { groups = s .groups; few = s .few; count = rw (length-perm h) (s .count); supply = rw (perm-deficit β h) (s .supply) }
 
   -- two members that together do not exceed β may be put together
   supplied-merge : {e a b : ℕ} {hs : List ℕ} → a + b ≤ β → Supplied N β n m e (a ∷ b ∷ hs) → Supplied N β n m (suc e) ((a + b) ∷ hs)
@@ -60,7 +61,7 @@ module _ {N β n m : ℕ} where
 
         merged : a + b ≤ β → Splits N β n (insert (a + b) hs)
         merged h =
-            below (suc e) (insert (a + b) hs) (omega (arith, perm-length inserted))
+            below (suc e) (insert (a + b) hs) (omega (arith, length-perm inserted))
             (supplied-perm inserted (supplied-merge h s)) (insert-ascending (a + b) zero-le (ascending-weaken zero-le asc))
 
         light : a + b ≤ β → Splits N β n (a ∷ b ∷ hs)
