@@ -36,7 +36,7 @@ given-holds P agent (a ∷ served) [] later each last = last
 given-holds P agent (a ∷ served) (b ∷ bundles) later each last = elim (eqb agent a) as (λ t. P (cond t b (given agent served bundles later)))
     [ true ↦ each b (here refl) | false ↦ given-holds P agent served bundles later (λ c m. each c (there m)) last ]
 
--- each bundle suits the agent at its place, and there is one for each agent
+-- each bundle suits the agent at its place, and there is one for each agent: `suited` of matching as a type, of bundles in the place of their numbers
 abbrev pub AllSuit : (ℕ → List ℕ → Bool) → List ℕ → List (List ℕ) → Type 0
 AllSuit suits [] [] = Unit {0}
 AllSuit suits [] (b ∷ bundles) = ⊥
