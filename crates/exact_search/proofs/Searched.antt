@@ -14,7 +14,8 @@ use Rattle.sheet.proofs.Accepted.{refused-not-accepted}
 use Rattle.sheet.proofs.sets.AllItems.{items-of-all}
 use Rattle.sheet.proofs.sets.Ranges.{setOf-upTo, setOf-below}
 use Rattle.shares.specs.Shares.{shareOf}
-use Rattle.shares.proofs.Outcomes.{nth-share}
+use Rattle.shares.specs.Known.{SharesIn}
+use Rattle.shares.proofs.Outcomes.{nth-shares-in}
 use Rattle.exact_division.specs.Exact.{exactExists}
 use Rattle.exact_division.specs.Search.{searching}
 use Rattle.exact_division.proofs.Existence.{exact-division-exists}
@@ -22,7 +23,6 @@ use Rattle.exact_division.proofs.Answers.{searching-within-limits}
 use Rattle.exact_search.specs.Outcome.{outcome, Searched}
 use Rattle.exact_search.specs.declared.Answer.the-variants.{None, Found}
 use Rattle.exact_search.specs.declared.Outcome.{Outcome}
-use Rattle.exact_search.specs.internal.Shared.{IsShared}
 use Rattle.exact_levels.specs.Serving.{Serves, Ranked}
 use Rattle.exact_levels.specs.Levels.{levelsOf}
 use Rattle.exact_levels.proofs.Levels.{levels-ranked}
@@ -36,7 +36,7 @@ module _ (n m : ℕ) (table : List (List ℕ)) where
   searched-refused number r is told =
       record { bundles = []; may-show = λ e. absurd (refused-not-accepted true number (sym is ∙ e)); answered = told ∙ ap (λ a. outcome a []) (sym is) }
 
-  module _ (shares : List ℕ) (shared : IsShared n m table shares) (all : ℕ) (all-is : all ≡ setOf (range 1 (min m mostItems))) where
+  module _ (shares : List ℕ) (shared : SharesIn n m table shares) (all : ℕ) (all-is : all ≡ setOf (range 1 (min m mostItems))) where
     abbrev few-items : m ≤ mostItems
     few-items = shared .counts .few-items
 
@@ -47,7 +47,7 @@ module _ (n m : ℕ) (table : List (List ℕ)) where
     small = omega (arith, all-is, setOf-below mostItems (range-sublist 1 (min m mostItems) mostItems (omega arith)))
 
     own-shares : (agent : ℕ) → Mem agent (range 1 n) → nth 0 shares agent ≡ shareOf n m table agent
-    own-shares agent ma = ap (λ l. nth 0 l agent) (shared .own-shares) ∙ nth-share n m table (shared .counts) ma
+    own-shares agent ma = nth-shares-in shared ma
 
     answers : (exists : Bool) → exactExists n m table ≡ exists → searching n m table ≡ accepted exists
     answers exists is = searching-within-limits n m table (shared .counts) ∙ ap accepted is

@@ -3,8 +3,8 @@
 ghost use mathlib.Core.Path.{_≡_};
 ghost use mathlib.Core.List.{[]};
 ghost use Rattle.sheet.specs.Answers.{refused};
+ghost use Rattle.shares.specs.Known.{SharesIn};
 ghost use Rattle.exact_search.specs.Outcome.{outcome, Searched};
-ghost use Rattle.exact_search.specs.internal.Shared.{IsShared};
 use crate::handing::hand_out;
 use exact_levels::rank;
 use shares::share_each;
@@ -42,7 +42,7 @@ fn refuse(number: u8) -> Outcome
 
 // The search in a table that is not refused, with the shares of its agents.
 fn search(table: Table, agents: usize, items: usize, shares: Amounts) -> Outcome
-    requires { ⌜ IsShared agents items table shares ⌝ }
+    requires { ⌜ SharesIn agents items table shares ⌝ }
     ensures { λ r. ⌜ Searched agents items table r ⌝ }
 {
     let all = all_items(items);

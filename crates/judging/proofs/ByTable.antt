@@ -15,9 +15,9 @@ use Rattle.sheet.specs.Valuations.{value}
 use Rattle.sheet.specs.Tables.{valuation, profile}
 use Rattle.sheet.specs.Amounts.{SmallAmounts}
 use Rattle.sheet.proofs.Limits.{counts-in-use}
-use Rattle.shares.specs.Shares.{shareOf}
+use Rattle.shares.specs.Known.{SharesIn}
 use Rattle.shares.proofs.Profile.{nth-shares}
-use Rattle.shares.proofs.EachAgent.{shares-range}
+use Rattle.shares.proofs.Outcomes.{nth-shares-in}
 use Rattle.margins.specs.Terms.{termsFor}
 use Rattle.margins.specs.Margins.{margin, marginWithin, marginsStored}
 use Rattle.grades.specs.Grade.{ownValues, valueTo, worthsIn, gradeIn}
@@ -25,14 +25,10 @@ use Rattle.grades.specs.Scale.{sharesOf, marginsByTable, gradeByTable}
 use Rattle.grades.proofs.InPlaces.{nth-worthsIn}
 use Rattle.margins.proofs.Stored.{nth-marginsStored}
 use Rattle.grades.proofs.Grades.{grade-cong, gradeIn-within}
-use Rattle.judging.specs.internal.Shared.{SharesIn}
 
 module _ (n m : ℕ) (table : List (List ℕ)) (shares : List ℕ) (shared : SharesIn n m table shares) where
-  pub nth-share : {i : ℕ} → Mem i (range 1 n) → nth 0 shares i ≡ shareOf n m table i
-  nth-share {i} mi = ap (λ l. nth 0 l i) (shared .each ∙ ap (padded mostAgents 0) (shares-range n m table)) ∙ nth-padded-range mostAgents 0 0 (shareOf n m table) n mi
-
   share-by-table : {i : ℕ} → Mem i (range 1 n) → nth 0 shares i ≡ nth 0 (sharesOf n m table) i
-  share-by-table mi = nth-share mi ∙ sym (nth-shares n m table mi)
+  share-by-table mi = nth-shares-in shared mi ∙ sym (nth-shares n m table mi)
 
   -- the sets of the agents in use have the items of their bundles
   module _ (sets : List ℕ) (bundles : List (List ℕ)) (same : (i : ℕ) → Mem i (range 1 n) → nth [] (map itemsOf sets) i ≡ nth [] bundles i) where

@@ -14,10 +14,11 @@ use Rattle.maximin.specs.Share.{maximinShare, maximinPartition}
 use Rattle.cut.specs.Outcome.{Cutting}
 use Rattle.shares.specs.Shares.{shareOf, sharing, sharingWithin}
 use Rattle.shares.specs.Outcome.{cutOf, blankCut, outcome}
+use Rattle.shares.specs.Known.{SharesIn}
 use Rattle.shares.specs.declared.Answer.the-variants.{Refused, Shared}
 use Rattle.shares.proofs.Refusals.{sharing-within, sharing-cases}
 use Rattle.shares.proofs.Allowance.{sharingWithin-cases}
-use Rattle.shares.proofs.EachAgent.{sharedAs, cutAt, outcome-each, outcome-range}
+use Rattle.shares.proofs.EachAgent.{sharedAs, cutAt, shares-range, outcome-each, outcome-range}
 
 -- the code's answer is a refusal only where the answer is
 pub answered-refused : (a : Answer (List Cutting)) (number : ℕ) → outcome a .answer ≡ Refused number → a ≡ refused number
@@ -64,3 +65,9 @@ module _ (n m : ℕ) (table : List (List ℕ)) where
 
     pub nth-cut : {agent : ℕ} → Mem agent (range 1 n) → nth blankCut (outcome (sharing n m table) .cuts) agent ≡ cutAt n m table agent
     nth-cut {agent} in-use = ap (λ o. nth blankCut (o .cuts) agent) by-number ∙ nth-padded-range mostAgents blankCut blankCut (cutAt n m table) n in-use
+
+-- the share of an agent in use, where the shares are known
+pub nth-shares-in : {n m : ℕ} {table : List (List ℕ)} {shares : List ℕ} → SharesIn n m table shares → {agent : ℕ} → Mem agent (range 1 n)
+    → nth 0 shares agent ≡ shareOf n m table agent
+nth-shares-in {n} {m} {table} known {agent} in-use =
+    ap (λ l. nth 0 l agent) (known .each ∙ ap (padded mostAgents 0) (shares-range n m table)) ∙ nth-padded-range mostAgents 0 0 (shareOf n m table) n in-use

@@ -10,7 +10,8 @@ ghost use Rattle.growth.specs.Growth.{growths};
 ghost use Rattle.cut.specs.Outcome.{cuttingOf};
 ghost use Rattle.shares.specs.Shares.{sharesCovered, sharing, sharingWithin};
 ghost use Rattle.shares.specs.Outcome.{outcome};
-ghost use Rattle.shares.specs.internal.OwnCuts.{ownCut, SharesOf};
+ghost use Rattle.shares.specs.Known.{SharesIn};
+ghost use Rattle.shares.specs.internal.OwnCuts.{ownCut};
 use cut::Partition;
 use sheet::Row;
 use sheet::Sheet;
@@ -89,7 +90,7 @@ fn own_cuts(table: Table, agents: usize, items: usize, allowance: u32) -> Outcom
 
 // The makers' check, refusal 9: whether no agent's share times the number of agents exceeds the sum of its marks.
 fn shares_covered(table: Table, agents: usize, items: usize, shares: Amounts) -> bool
-    requires { ⌜ SharesOf agents items table shares ⌝ }
+    requires { ⌜ SharesIn agents items table shares ⌝ }
     ensures { λ r. ⌜ r ≡ sharesCovered agents (profile agents items table) ⌝ }
 {
     let set = all_items(items);

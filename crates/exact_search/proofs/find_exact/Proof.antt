@@ -2,7 +2,7 @@
 use mathlib.Core.Path.{sym, ap, _∙_}
 use borrow.Author.Needs.{needs}
 use Rattle.shares.specs.Shares.{sharing}
-use Rattle.shares.proofs.Outcomes.{answered-refused, answered-shared}
+use Rattle.shares.proofs.Outcomes.{answered-refused, answered-shared, shares-within}
 use Rattle.exact_division.proofs.Answers.{searching-refused}
 use Rattle.exact_search.proofs.Searched.{searched-refused}
 use Rattle.exact_search.proofs.find_exact.Statement.{statement}
@@ -24,9 +24,11 @@ search-requires : tie.Need-search-requires
 search-requires c κs =
     let own = c .before .before .before .share-each in
     let a = c .before .before .before .before .args in
+    let counts = answered-shared (a .agents) (a .items) (a .table) (sym (ap (λ o. o .answer) (own .ensures .0)) ∙ c .before .enum-told .given .1) in
     record {
-      counts = answered-shared (a .agents) (a .items) (a .table) (sym (ap (λ o. o .answer) (own .ensures .0)) ∙ c .before .enum-told .given .1);
-      own-shares = ap (λ o. o .shares) (own .ensures .0);
+      counts = counts;
+      each = ap (λ o. o .shares) (own .ensures .0) ∙ shares-within (a .agents) (a .items) (a .table) counts;
+      small = own .ensures .1;
     }
 
 returns : tie.Need-returns

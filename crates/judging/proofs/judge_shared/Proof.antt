@@ -12,6 +12,7 @@ use Rattle.lists.specs.Lists.{range, nth, padded}
 use Rattle.sheet.specs.Limits.{mostAgents, mostItems}
 use Rattle.sheet.specs.Sets.{itemsOf}
 use Rattle.sheet.specs.Answers.{Answer, refused, requireSome}
+use Rattle.shares.proofs.Outcomes.{nth-shares-in}
 use Rattle.grades.specs.Grade.{gradeIn}
 use Rattle.grades.specs.Scale.{marginsByTable, gradeByTable}
 use Rattle.division_reading.specs.Stated.{Stated}
@@ -25,7 +26,7 @@ use Rattle.stated_truth.proofs.Verdicts.{judging-within, judged-off-sheet, judg
 use Rattle.judging.specs.Outcome.{outcome}
 use Rattle.judging.specs.declared.Answer.the-variants.{Accepted}
 use Rattle.judging.proofs.StatedLines.{nth-bundle, test-stated, figures-stated}
-use Rattle.judging.proofs.ByTable.{nth-share, margins-by-table, grade-by-table}
+use Rattle.judging.proofs.ByTable.{margins-by-table, grade-by-table}
 use Rattle.judging.proofs.judge_shared.Statement.{statement}
 use Rattle.judging.proofs.judge_shared.Tie as tie
 
@@ -116,7 +117,7 @@ figures-told : (c : tie.After-figures-true)
 figures-told c =
     let a = start c .args in
     figures-stated (a .agents) (a .stated .grade) (a .stated .lines) (start c .pre .counts .few) (sets c .bundles-of .ensures .1) (a .items) (a .table) (a .shares)
-    (λ i mi. nth-share (a .agents) (a .items) (a .table) (a .shares) (start c .pre) mi) (graded c .grade-of .result) (grade-told c)
+    (λ i mi. nth-shares-in (start c .pre) mi) (graded c .grade-of .result) (grade-told c)
     ∙ ap₂ (λ n m. figuresTrueBy n m (a .table) (a .shares) (a .stated .lines) (graded c .grade-of .result) (a .stated .grade)) (agents-kept c) (items-kept c)
     ∙ sym (c .figures-true .ensures)
 

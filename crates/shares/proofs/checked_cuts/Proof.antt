@@ -35,9 +35,9 @@ shares-covered-requires c κs =
     let s = c .before .before in
     let a = s .args in
     record {
-      in-use = counts-in-use (s .pre .0);
-      small = c .before .own-cuts .ensures .1;
+      counts = s .pre .0;
       each = ap (λ o. o .shares) (c .before .own-cuts .ensures .0 ∙ outcome-each (a .agents) (a .items) (a .table));
+      small = c .before .own-cuts .ensures .1;
     }
 
 refuse-requires : tie.Need-refuse-requires

@@ -86,7 +86,7 @@ array-read-multiples c = omega arith
 mul-multiples-2 : tie.Need-mul-multiples-2 Inv-loop μ-loop
 mul-multiples-2 c =
     let s = start (c .before .before) in
-    omega (arith, mul-le-mul (s .pre .in-use .few) (s .pre .small (c .before .before .loop .i)))
+    omega (arith, mul-le-mul (s .pre .counts .few) (s .pre .small (c .before .before .loop .i)))
 
 mul-multiples-3 : tie.Need-mul-multiples-3 Inv-loop μ-loop
 mul-multiples-3 c = omega arith

@@ -1,2 +1,0 @@
--- What only the contracts of private functions cite.
-pub mod Shared
