@@ -1,21 +1,13 @@
--- The starred sheets of document 01 all have an exact division, refusals 4 and 5, and allocations of sheet c at both sides of a share, by
--- computation. Assumes nothing.
+-- Refusals 4 and 5, and allocations of sheet c at both sides of a share, by computation. Assumes nothing.
 use mathlib.Core.Path.{_≡_, refl}
 use mathlib.Core.Bool.{Bool, true, false}
 use mathlib.Core.List.{List, [], _∷_, map}
 use Prim.Native.Nat.{ℕ}
-use Rattle.sheet.specs.Tables.{profile}
-use Rattle.sheet.specs.Answers.{refused, accepted}
+use Rattle.sheet.specs.Answers.{refused}
 use Rattle.maximin.specs.Share.{maximinShare}
-use Rattle.shares.specs.Shares.{sharesCovered, sharing}
-use Rattle.rounds.specs.SampleSheets.{starred, samples}
-use Rattle.exact_division.specs.Exact.{isExact, exactExists}
+use Rattle.shares.specs.Shares.{sharing}
+use Rattle.exact_division.specs.Exact.{isExact}
 use Rattle.exact_division.specs.Search.{searching}
-
--- sheets a to f and i, and the sheet of grade 2 behind them; the box's division of c is graded 4
-pub starred-have-one : map (λ s. searching (s .agents) (s .items) (s .rows)) samples ≡ map (λ s. accepted true) samples
-unfolding starred searching exactExists isExact sharing sharesCovered profile maximinShare
-starred-have-one = refl
 
 -- 0 and 7 yards give 4, 0 and 13 pieces give 5, and 4 is tried first
 pub refusals-hold : searching 0 3 [] ∷ searching 7 3 [] ∷ searching 2 0 [] ∷ searching 2 13 [] ∷ searching 7 13 [] ∷ []
