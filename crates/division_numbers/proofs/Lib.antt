@@ -1,1 +1,2 @@
--- No laws: the proofs of the functions stand in the folders of their names.
+-- Laws of the numbers that a division states: what is left behind them.
+pub mod Places

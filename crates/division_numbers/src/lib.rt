@@ -1,8 +1,9 @@
 // Reading the numbers that a division states at any place of a text: counts and grade in its head, worth and share in a yard line.
+ghost use mathlib.Core.Path.{_≡_};
 ghost use Rattle.tokeniser.specs.Places.{tokensAt};
-ghost use Rattle.lexing.specs.Results.{ReadsNumber};
+ghost use Rattle.lexing.specs.Results.{numberFrom};
 ghost use Rattle.division_numbers.specs.Numbers.{amounts, head};
-ghost use Rattle.division_numbers.specs.Results.{ReadsAmounts};
+ghost use Rattle.division_numbers.specs.Results.{amountsFrom};
 use lexing::forms::Followed;
 use lexing::forms::Number;
 use lexing::forms::follow;
@@ -36,7 +37,7 @@ pub enum Amounts {
 
 // (worth 5) (share 5) (cut
 pub fn read_amounts(s: &[u8], c: Cursor) -> Amounts
-    ensures { λ r. ⌜ ReadsAmounts (now (s .entry)) r (amounts (tokensAt (now (s .entry)) c)) ⌝ }
+    ensures { λ r. ⌜ r ≡ amountsFrom (now (s .entry)) c (amounts (tokensAt (now (s .entry)) c)) ⌝ }
 {
     let Number::Value(worth, c1) = number_after(s, c, &BEFORE_WORTH, Sheet::SUM_DIGITS) else {
         return Amounts::Missed;
@@ -52,7 +53,7 @@ pub fn read_amounts(s: &[u8], c: Cursor) -> Amounts
 
 // (division (yards 2) (pieces 3) (grade 3))
 pub fn read_head(s: &[u8], c: Cursor, agents: usize, items: usize) -> Number
-    ensures { λ r. ⌜ ReadsNumber (now (s .entry)) r (head agents items (tokensAt (now (s .entry)) c)) ⌝ }
+    ensures { λ r. ⌜ r ≡ numberFrom (now (s .entry)) c (head agents items (tokensAt (now (s .entry)) c)) ⌝ }
 {
     let Followed::At(c1) = follow_number(s, c, &BEFORE_COUNTS, Sheet::COUNT_DIGITS, agents) else {
         return Number::Missed;

@@ -5,7 +5,7 @@ ghost use mathlib.Core.Bool.{false};
 ghost use Rattle.sheet.specs.Limits.{mostAgents, mostItems};
 ghost use Rattle.tokeniser.specs.Places.{tokensAt};
 ghost use Rattle.bundle_reading.specs.Kept.{mapRead, keptBundle};
-ghost use Rattle.bundle_reading.specs.Results.{ReadsBundle};
+ghost use Rattle.bundle_reading.specs.Results.{bundleFrom};
 ghost use Rattle.division_reading.specs.Grammar.{bundleInTurn, cutBundles, yardLine, yardLines};
 ghost use Rattle.division_reading.specs.Outcome.{keptLine};
 ghost use Rattle.division_reading.specs.internal.Kept.{keptCut, keptLines};
@@ -52,7 +52,7 @@ pub struct Lines {
 // (yard 1 (pile 1)
 fn bundle_in_turn(s: &[u8], c: Cursor, turn: usize, items: usize) -> Bundle
     requires { ⌜ items ≤ mostItems ⌝ }
-    ensures { λ r. ⌜ ReadsBundle (now (s .entry)) r (keptBundle (bundleInTurn items turn (tokensAt (now (s .entry)) c))) ⌝ }
+    ensures { λ r. ⌜ r ≡ bundleFrom (now (s .entry)) c (keptBundle (bundleInTurn items turn (tokensAt (now (s .entry)) c))) ⌝ }
 {
     let Followed::At(next) = follow_number(s, c, &BEFORE_TURN, Sheet::COUNT_DIGITS, turn) else {
         return Bundle::Missed;

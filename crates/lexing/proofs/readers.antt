@@ -4,6 +4,8 @@ pub mod Numbers
 pub mod Tested
 pub mod Follow
 pub mod InTurn
+pub mod Suffixes
+pub mod Places
 pub mod AlsoReads
 pub mod Written
 pub mod Bounds

@@ -1,21 +1,20 @@
--- Each kind of result of the code's readers, against what the definitions read from the tokens at a place. Where something is read,
--- the next place stands inside the text, before the tokens that the definition leaves. Assumes nothing: these are definitions.
-use mathlib.Core.Path.{_≡_}
+-- What the code's readers answer for what the definitions read from the tokens at a place: nothing, or what is read, and the place just
+-- behind the last token that was read. Assumes nothing: these are definitions.
 use mathlib.Core.List.{List}
 use mathlib.Core.Option.{Option, none, some}
-use Prim.Native.Nat.{ℕ, _≤_}
-use lib.ListN.{length}
+use Prim.Native.Nat.{ℕ}
 use Rattle.tokens.specs.Tokens.{Token}
-use Rattle.tokeniser.specs.Places.{tokensAt}
+use Rattle.tokeniser.specs.Behind.{placeLeft}
+use Rattle.tokeniser.specs.declared.Cursor.{Cursor}
 use Rattle.lexing.specs.declared.forms.Followed as followed
 use Rattle.lexing.specs.declared.forms.Number as number
 
 -- a form
-abbrev pub Follows : List ℕ → followed.Followed → Option (List Token) → Type 0
-Follows s (followed.the-variants.At c) o = (c .at ≤ length s) × (o ≡ some (tokensAt s c))
-Follows s followed.the-variants.Missed o = o ≡ none
+unfoldable pub followedFrom : List ℕ → Cursor → Option (List Token) → followed.Followed
+followedFrom s c none = followed.the-variants.Missed
+followedFrom s c (some ts) = followed.the-variants.At (placeLeft s c ts)
 
 -- a number
-abbrev pub ReadsNumber : List ℕ → number.Number → Option (ℕ × List Token) → Type 0
-ReadsNumber s (number.the-variants.Value n c) o = (c .at ≤ length s) × (o ≡ some (n, tokensAt s c))
-ReadsNumber s number.the-variants.Missed o = o ≡ none
+unfoldable pub numberFrom : List ℕ → Cursor → Option (ℕ × List Token) → number.Number
+numberFrom s c none = number.the-variants.Missed
+numberFrom s c (some (n, ts)) = number.the-variants.Value n (placeLeft s c ts)

@@ -8,13 +8,12 @@ ghost use Rattle.tokeniser.specs.NextToken.{bytesOf};
 ghost use Rattle.lexing.specs.Forms.{same};
 ghost use Rattle.lexing.specs.Forms;
 ghost use Rattle.lexing.specs.Numbers.{longestNumber, number, numberAfter, followNumber};
-ghost use Rattle.lexing.specs.Results.{Follows, ReadsNumber};
+ghost use Rattle.lexing.specs.Results.{followedFrom, numberFrom};
 use numerals::Numeral;
 use numerals::read_digits;
 use tokeniser::Cursor;
 use tokeniser::Token;
 use tokeniser::ended;
-use tokeniser::inside;
 use tokeniser::next_token;
 
 // The place after the tokens of a form.
@@ -44,9 +43,9 @@ fn same_token(s: &[u8], t: Token, form: &[u8], f: Token) -> bool
 
 // The place after the tokens of the form's text, where these are the next.
 pub fn follow(s: &[u8], c: Cursor, form: &[u8]) -> Followed
-    ensures { λ r. ⌜ Follows (now (s .entry)) r (Forms.follow (tokens (now (form .entry))) (tokensAt (now (s .entry)) c)) ⌝ }
+    ensures { λ r. ⌜ r ≡ followedFrom (now (s .entry)) c (Forms.follow (tokens (now (form .entry))) (tokensAt (now (s .entry)) c)) ⌝ }
 {
-    let mut here = inside(s, c);
+    let mut here = c;
     let mut there = Cursor::start();
     while !ended(form, there) {
         let f = next_token(form, there);
@@ -62,7 +61,7 @@ pub fn follow(s: &[u8], c: Cursor, form: &[u8]) -> Followed
 
 // A number in one to `most` digits, of which no more than 19 are read.
 pub fn read_number(s: &[u8], c: Cursor, most: usize) -> Number
-    ensures { λ r. ⌜ ReadsNumber (now (s .entry)) r (number (min most longestNumber) (tokensAt (now (s .entry)) c)) ⌝ }
+    ensures { λ r. ⌜ r ≡ numberFrom (now (s .entry)) c (number (min most longestNumber) (tokensAt (now (s .entry)) c)) ⌝ }
 {
     let t = next_token(s, c);
     let from = t.from;
@@ -76,7 +75,7 @@ pub fn read_number(s: &[u8], c: Cursor, most: usize) -> Number
 
 // A form's text, and then a number in one to `most` digits, of which no more than 19 are read.
 pub fn number_after(s: &[u8], c: Cursor, form: &[u8], most: usize) -> Number
-    ensures { λ r. ⌜ ReadsNumber (now (s .entry)) r (numberAfter (tokens (now (form .entry))) (min most longestNumber) (tokensAt (now (s .entry)) c)) ⌝ }
+    ensures { λ r. ⌜ r ≡ numberFrom (now (s .entry)) c (numberAfter (tokens (now (form .entry))) (min most longestNumber) (tokensAt (now (s .entry)) c)) ⌝ }
 {
     let Followed::At(next) = follow(s, c, form) else {
         return Number::Missed;
@@ -86,7 +85,7 @@ pub fn number_after(s: &[u8], c: Cursor, form: &[u8], most: usize) -> Number
 
 // The place after a form's text and just the number `n`, in one to `most` digits, of which no more than 19 are read.
 pub fn follow_number(s: &[u8], c: Cursor, form: &[u8], most: usize, n: usize) -> Followed
-    ensures { λ r. ⌜ Follows (now (s .entry)) r (followNumber (tokens (now (form .entry))) (min most longestNumber) n (tokensAt (now (s .entry)) c)) ⌝ }
+    ensures { λ r. ⌜ r ≡ followedFrom (now (s .entry)) c (followNumber (tokens (now (form .entry))) (min most longestNumber) n (tokensAt (now (s .entry)) c)) ⌝ }
 {
     let Number::Value(k, next) = number_after(s, c, form, most) else {
         return Followed::Missed;

@@ -10,6 +10,7 @@ pub mod Accepted
 pub mod Refusals
 pub mod AtFront
 pub mod LongTexts
+pub mod FrontPlace
 pub mod SmallMarks
 pub mod WiderMarks
 pub mod SheetA

@@ -1,11 +1,9 @@
 // Reading a sheet of marks from bytes: the refusal's number, or the counts, and the table of marks.
 ghost use mathlib.Core.Path.{_≡_};
-ghost use Rattle.sheet.specs.Answers;
 ghost use Rattle.sheet.specs.Limits.{markLimits};
-ghost use Rattle.tokeniser.specs.Places.{start};
 ghost use Rattle.sheet_lines.specs.Alone.{mayFollow};
 ghost use Rattle.reading.specs.Reading.{sheetAtFront, reading, readingFront};
-ghost use Rattle.reading.specs.Outcome.{outcome, tableIn, ReadsFront};
+ghost use Rattle.reading.specs.Outcome.{outcome, tableIn, refusedFront, frontFrom};
 use lexing::forms::Followed;
 use sheet::Sheet;
 use sheet::Table;
@@ -53,7 +51,7 @@ pub fn table(rows: [Yard; Sheet::AGENTS]) -> Table
 
 // What a refusal gives.
 fn refused(number: u8) -> Front
-    ensures { λ r. ⌜ (r .outcome ≡ outcome (Answers.refused number)) × (r .next ≡ start) ⌝ }
+    ensures { λ r. ⌜ r ≡ refusedFront number ⌝ }
 {
     let outcome = Outcome {
         answer: Answer::Refused(number),
@@ -67,7 +65,7 @@ fn refused(number: u8) -> Front
 
 // The first reason to refuse a text, or the counts and the rows of the sheet at its front, which may have to stand alone.
 fn sheet_at_front(text: &[u8], alone: bool) -> Front
-    ensures { λ r. ⌜ ReadsFront (now (text .entry)) r (sheetAtFront markLimits (mayFollow alone) (now (text .entry))) ⌝ }
+    ensures { λ r. ⌜ r ≡ frontFrom (now (text .entry)) (sheetAtFront markLimits (mayFollow alone) (now (text .entry))) ⌝ }
 {
     if Sheet::LONGEST_TEXT < text.len() {
         return refused(1);
@@ -113,7 +111,7 @@ pub fn read(text: &[u8]) -> Outcome
 
 // The same of a text that goes on behind the line `(end)` of its sheet, and where it does.
 pub fn read_front(text: &[u8]) -> Front
-    ensures { λ r. ⌜ ReadsFront (now (text .entry)) r (readingFront (now (text .entry))) ⌝ }
+    ensures { λ r. ⌜ r ≡ frontFrom (now (text .entry)) (readingFront (now (text .entry))) ⌝ }
 {
     sheet_at_front(text, false)
 }

@@ -1,5 +1,5 @@
--- Each kind of result of the readers, against what the grammar reads from the tokens at a place. Assumes nothing: these are definitions.
-use mathlib.Core.Path.{_≡_}
+-- What the readers answer for what the grammar reads from the tokens at a place: nothing, or what is read, and the place just behind it.
+-- Assumes nothing: these are definitions.
 use mathlib.Core.List.{List}
 use mathlib.Core.Option.{Option, none, some}
 use mathlib.Core.Bool.{true, false}
@@ -7,7 +7,9 @@ use Prim.Native.Nat.{ℕ}
 use Rattle.lists.specs.Lists.{all}
 use Rattle.sheet.specs.Limits.{greatestMark}
 use Rattle.tokens.specs.Tokens.{Token}
-use Rattle.tokeniser.specs.Places.{tokensAt, start}
+use Rattle.tokeniser.specs.Places.{start}
+use Rattle.tokeniser.specs.Behind.{placeLeft}
+use Rattle.tokeniser.specs.declared.Cursor.{Cursor}
 use Rattle.sheet_lines.specs.Grammar as grammar
 use Rattle.sheet_lines.specs.Marks.{allowedRow}
 use Rattle.sheet_lines.specs.Kept.{blankYards, keptYards}
@@ -15,22 +17,15 @@ use Rattle.sheet_lines.specs.declared.head.Head as head
 use Rattle.sheet_lines.specs.declared.body.Body.{Body}
 
 -- the head
-abbrev pub ReadsHead : List ℕ → head.Head → Option (ℕ × ℕ × List Token) → Type 0
-ReadsHead s (head.the-variants.Counts agents items c) o = o ≡ some (agents, items, tokensAt s c)
-ReadsHead s head.the-variants.Missed o = o ≡ none
+unfoldable pub headFrom : List ℕ → Cursor → Option (ℕ × ℕ × List Token) → head.Head
+headFrom s c none = head.the-variants.Missed
+headFrom s c (some (agents, items, ts)) = head.the-variants.Counts agents items (placeLeft s c ts)
 
 -- lines that are not as they should be give nothing
 abbrev pub unreadBody : Body
 unreadBody = record { read = false; allowed = false; yards = blankYards; next = start }
 
--- what lines give that are as they should be
-pub record Gives (s : List ℕ) (r : Body) (b : grammar.Body) (ts : List Token) : Type 0 where
-  pub is-read : r .read ≡ true
-  pub tested : r .allowed ≡ all (allowedRow greatestMark) (b .rows)
-  pub filled : r .yards ≡ keptYards (b .rows)
-  pub leaves : tokensAt s (r .next) ≡ ts
-
--- the lines between the first line and the line `(end)`
-abbrev pub ReadsBody : List ℕ → Body → Option (grammar.Body × List Token) → Type 0
-ReadsBody s r none = r ≡ unreadBody
-ReadsBody s r (some (b, ts)) = Gives s r b ts
+-- the lines between the first line and the line `(end)`: whether all marks are allowed, and the rows of marks
+unfoldable pub bodyFrom : List ℕ → Cursor → Option (grammar.Body × List Token) → Body
+bodyFrom s c none = unreadBody
+bodyFrom s c (some (b, ts)) = record { read = true; allowed = all (allowedRow greatestMark) (b .rows); yards = keptYards (b .rows); next = placeLeft s c ts }

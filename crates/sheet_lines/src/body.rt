@@ -6,9 +6,9 @@ ghost use Rattle.tokeniser.specs.Places.{tokensAt};
 ghost use Rattle.sheet_lines.specs.Grammar.{yardLines};
 ghost use Rattle.sheet_lines.specs.Grammar;
 ghost use Rattle.sheet_lines.specs.Kept.{blankYards};
-ghost use Rattle.sheet_lines.specs.Results.{unreadBody, ReadsBody};
+ghost use Rattle.sheet_lines.specs.Results.{unreadBody, bodyFrom};
 ghost use Rattle.sheet_lines.specs.internal.Kept.{keptLines};
-ghost use Rattle.sheet_lines.specs.internal.Results.{ReadsLines};
+ghost use Rattle.sheet_lines.specs.internal.Results.{linesFrom};
 use crate::yards::Yard;
 use crate::yards::both;
 use crate::yards::yard_line;
@@ -51,7 +51,7 @@ fn unread() -> Body
 fn yard_lines(s: &[u8], c: Cursor, agents: usize, items: usize) -> Body
     requires { ⌜ agents ≤ mostAgents ⌝ }
     requires { ⌜ items ≤ mostItems ⌝ }
-    ensures { λ r. ⌜ ReadsLines (now (s .entry)) r (keptLines (yardLines markDigits agents items (tokensAt (now (s .entry)) c))) ⌝ }
+    ensures { λ r. ⌜ r ≡ linesFrom (now (s .entry)) c (keptLines (yardLines markDigits agents items (tokensAt (now (s .entry)) c))) ⌝ }
 {
     let mut yards = blank_yards();
     let mut allowed = true;
@@ -78,7 +78,7 @@ fn yard_lines(s: &[u8], c: Cursor, agents: usize, items: usize) -> Body
 
 // The lines between the first line and the line `(end)` of a sheet with these counts, of no more than a sheet may have.
 pub fn read_body(s: &[u8], c: Cursor, agents: usize, items: usize) -> Body
-    ensures { λ r. ⌜ ReadsBody (now (s .entry)) r (Grammar.body markDigits (min agents mostAgents) (min items mostItems) (tokensAt (now (s .entry)) c)) ⌝ }
+    ensures { λ r. ⌜ r ≡ bodyFrom (now (s .entry)) c (Grammar.body markDigits (min agents mostAgents) (min items mostItems) (tokensAt (now (s .entry)) c)) ⌝ }
 {
     yard_lines(
         s,

@@ -1,7 +1,7 @@
 // The last line of a sheet.
 ghost use mathlib.Core.Path.{_≡_};
 ghost use Rattle.tokeniser.specs.Places.{tokensAt};
-ghost use Rattle.lexing.specs.Results.{Follows};
+ghost use Rattle.lexing.specs.Results.{followedFrom};
 ghost use Rattle.sheet_lines.specs.Grammar.{endLine};
 ghost use Rattle.sheet_lines.specs.Alone.{mayFollow};
 use crate::forms::LAST_LINE;
@@ -19,7 +19,7 @@ fn may_follow(s: &[u8], c: Cursor, alone: bool) -> bool
 
 // The place after the line `(end)`, where behind it stands what may.
 pub fn end_line(s: &[u8], c: Cursor, alone: bool) -> Followed
-    ensures { λ r. ⌜ Follows (now (s .entry)) r (endLine (mayFollow alone) (tokensAt (now (s .entry)) c)) ⌝ }
+    ensures { λ r. ⌜ r ≡ followedFrom (now (s .entry)) c (endLine (mayFollow alone) (tokensAt (now (s .entry)) c)) ⌝ }
 {
     let Followed::At(next) = follow(s, c, &LAST_LINE) else {
         return Followed::Missed;

@@ -1,7 +1,8 @@
 // The first line of a sheet.
+ghost use mathlib.Core.Path.{_≡_};
 ghost use Rattle.tokeniser.specs.Places.{tokensAt};
 ghost use Rattle.sheet_lines.specs.Grammar.{head};
-ghost use Rattle.sheet_lines.specs.Results.{ReadsHead};
+ghost use Rattle.sheet_lines.specs.Results.{headFrom};
 use crate::forms::BEFORE_AGENTS;
 use crate::forms::BEFORE_ITEMS;
 use crate::forms::LINE_END;
@@ -20,7 +21,7 @@ pub enum Head {
 
 // (sheet (yards 2) (pieces 3))
 pub fn read_head(s: &[u8], c: Cursor) -> Head
-    ensures { λ r. ⌜ ReadsHead (now (s .entry)) r (head (tokensAt (now (s .entry)) c)) ⌝ }
+    ensures { λ r. ⌜ r ≡ headFrom (now (s .entry)) c (head (tokensAt (now (s .entry)) c)) ⌝ }
 {
     let Number::Value(agents, c1) = number_after(s, c, &BEFORE_AGENTS, Sheet::COUNT_DIGITS) else {
         return Head::Missed;

@@ -1,13 +1,13 @@
 // The line of one yard.
 ghost use Prim.Native.Nat.{_≤_};
 ghost use mathlib.Core.Path.{_≡_};
-ghost use mathlib.Core.Bool.{false, _&&_};
+ghost use mathlib.Core.Bool.{_&&_};
 ghost use Rattle.sheet.specs.Limits.{mostItems, markDigits};
 ghost use Rattle.tokeniser.specs.Places.{tokensAt};
-ghost use Rattle.lexing.specs.Results.{Follows};
+ghost use Rattle.lexing.specs.Results.{followedFrom};
 ghost use Rattle.sheet_lines.specs.Grammar.{marks, yardTurn, yardLine};
 ghost use Rattle.sheet_lines.specs.internal.Kept.{keptMarks};
-ghost use Rattle.sheet_lines.specs.internal.Results.{ReadsLine};
+ghost use Rattle.sheet_lines.specs.internal.Results.{unreadLine, lineFrom};
 use crate::forms::BEFORE_MARKS;
 use crate::forms::BEFORE_TURN;
 use crate::forms::LINE_END;
@@ -45,21 +45,21 @@ pub(crate) fn both(a: bool, b: bool) -> bool
 }
 
 // A line that is not as it should be.
-fn unread(c: Cursor) -> Line
-    ensures { λ r. ⌜ r .read ≡ false ⌝ }
+fn unread() -> Line
+    ensures { λ r. ⌜ r ≡ unreadLine ⌝ }
 {
     Line {
         read: false,
         allowed: false,
         row: [0; Sheet::ITEMS],
-        next: c,
+        next: Cursor::start(),
     }
 }
 
 // As many marks as there are pieces.
 fn read_marks(s: &[u8], c: Cursor, items: usize) -> Line
     requires { ⌜ items ≤ mostItems ⌝ }
-    ensures { λ r. ⌜ ReadsLine (now (s .entry)) r (keptMarks (marks markDigits items (tokensAt (now (s .entry)) c))) ⌝ }
+    ensures { λ r. ⌜ r ≡ lineFrom (now (s .entry)) c (keptMarks (marks markDigits items (tokensAt (now (s .entry)) c))) ⌝ }
 {
     let mut row: Row = [0; Sheet::ITEMS];
     let mut allowed = true;
@@ -67,7 +67,7 @@ fn read_marks(s: &[u8], c: Cursor, items: usize) -> Line
     let mut k = 0;
     while k < items {
         let Number::Value(m, next) = read_number(s, here, Sheet::MARK_DIGITS) else {
-            return unread(here);
+            return unread();
         };
         row[k] = (m % MARK_VALUES) as Mark;
         allowed = both(allowed, m <= Sheet::GREATEST_MARK);
@@ -84,7 +84,7 @@ fn read_marks(s: &[u8], c: Cursor, items: usize) -> Line
 
 // The place after `(yard`, the number `turn` and `(marks`.
 fn yard_in_turn(s: &[u8], c: Cursor, turn: usize) -> Followed
-    ensures { λ r. ⌜ Follows (now (s .entry)) r (yardTurn turn (tokensAt (now (s .entry)) c)) ⌝ }
+    ensures { λ r. ⌜ r ≡ followedFrom (now (s .entry)) c (yardTurn turn (tokensAt (now (s .entry)) c)) ⌝ }
 {
     let Followed::At(next) = follow_number(s, c, &BEFORE_TURN, Sheet::COUNT_DIGITS, turn) else {
         return Followed::Missed;
@@ -95,10 +95,10 @@ fn yard_in_turn(s: &[u8], c: Cursor, turn: usize) -> Followed
 // (yard 1 (marks 5 3 4))
 pub(crate) fn yard_line(s: &[u8], c: Cursor, turn: usize, items: usize) -> Line
     requires { ⌜ items ≤ mostItems ⌝ }
-    ensures { λ r. ⌜ ReadsLine (now (s .entry)) r (keptMarks (yardLine markDigits items turn (tokensAt (now (s .entry)) c))) ⌝ }
+    ensures { λ r. ⌜ r ≡ lineFrom (now (s .entry)) c (keptMarks (yardLine markDigits items turn (tokensAt (now (s .entry)) c))) ⌝ }
 {
     let Followed::At(c1) = yard_in_turn(s, c, turn) else {
-        return unread(c);
+        return unread();
     };
     let marks = read_marks(s, c1, items);
     if !marks.read {
@@ -106,7 +106,7 @@ pub(crate) fn yard_line(s: &[u8], c: Cursor, turn: usize, items: usize) -> Line
     }
     let c2 = marks.next;
     let Followed::At(c3) = follow(s, c2, &LINE_END) else {
-        return unread(c);
+        return unread();
     };
     let mut done = marks;
     done.next = c3;

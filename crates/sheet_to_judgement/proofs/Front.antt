@@ -1,5 +1,5 @@
 -- What the outcome of a sheet at the front of a text says of the answer that follows it. Assumes nothing.
-use mathlib.Core.Path.{_≡_, sym, ap, _∙_, subst}
+use mathlib.Core.Path.{_≡_, refl, sym, ap, _∙_, subst}
 use mathlib.Core.List.{List}
 use Prim.Native.Nat.{ℕ}
 use native.Mathlib.Omega.{arith}
@@ -10,12 +10,13 @@ use Rattle.sheet.specs.declared.Sheet.{Sheet}
 use Rattle.tokens.specs.Tokens.{Token}
 use Rattle.tokeniser.specs.Places.{tokensAt}
 use Rattle.reading.specs.Reading.{Contents, sheetOf, readingFront}
-use Rattle.reading.specs.Outcome.{outcome, tableIn, LeavesOff, ReadsFront}
+use Rattle.reading.specs.Outcome.{outcome, tableIn, frontFrom}
 use Rattle.reading.specs.declared.Answer.the-variants.{Refused, Accepted}
 use Rattle.reading.specs.declared.Front.{Front}
 use Rattle.tokeniser.specs.declared.Cursor.{Cursor}
 use Rattle.reading.proofs.Composed.{HasTable, accepted-has-table}
 use Rattle.reading.proofs.AtFront.{front-passes}
+use Rattle.reading.proofs.FrontPlace.{front-outcome, front-leaves}
 
 -- the counts of a sheet that is accepted are within the limits
 pub readingFront-counts : (text : List ℕ) (c : Contents) (behind : List Token) → readingFront text ≡ accepted (c, behind) → CountsWithin (c .agents) (c .items)
@@ -35,21 +36,28 @@ pub record FrontRead (text : List ℕ) (place : Cursor) (a : Answer (Contents ×
   pub is-accepted : a ≡ accepted (sheet, tokensAt text place)
   pub has-table : HasTable counts table sheet
 
-accepted-of : (s : List ℕ) (place : Cursor) (a : Answer (Contents × List Token)) (counts : Sheet) → outcome (sheetOf a) .answer ≡ Accepted counts → LeavesOff s place a
-    → FrontRead s place a counts (tableIn (outcome (sheetOf a) .rows))
+accepted-of : (s : List ℕ) (place : Cursor) (a : Answer (Contents × List Token)) (counts : Sheet) → outcome (sheetOf a) .answer ≡ Accepted counts
+    → ((sheet : Contents) (ts : List Token) → a ≡ accepted (sheet, ts) → tokensAt s place ≡ ts) → FrontRead s place a counts (tableIn (outcome (sheetOf a) .rows))
 accepted-of s place (refused k) counts e left = let z : _≡_ {A = ℕ} 0 1 = cc in absurd (omega arith)
 accepted-of s place (accepted (sheet, ts)) counts e left =
-    record { sheet = sheet; is-accepted = sym (ap (λ t. accepted (sheet, t)) (left .1)); has-table = accepted-has-table sheet e }
+    record { sheet = sheet; is-accepted = sym (ap (λ t. accepted (sheet, t)) (left sheet ts refl)); has-table = accepted-has-table sheet e }
 
-module _ (text : List ℕ) {front : Front} (read : ReadsFront text front (readingFront text)) where
+module _ (text : List ℕ) {front : Front} (read : front ≡ frontFrom text (readingFront text)) where
+  outcome-read : front .outcome ≡ outcome (sheetOf (readingFront text))
+  outcome-read = ap (λ f. f .outcome) read ∙ front-outcome text (readingFront text)
+
+  tokens-left : (sheet : Contents) (ts : List Token) → readingFront text ≡ accepted (sheet, ts) → tokensAt text (front .next) ≡ ts
+  unfolding frontFrom
+  tokens-left sheet ts e = ap (λ f. tokensAt text (f .next)) (read ∙ ap (frontFrom text) e) ∙ front-leaves text sheet ts e
+
   pub refused-front : {number : ℕ} → front .outcome .answer ≡ Refused number → readingFront text ≡ refused number
-  refused-front {number} e = refused-of (readingFront text) number (sym (ap (λ o. o .answer) (read .sheet-read)) ∙ e)
+  refused-front {number} e = refused-of (readingFront text) number (sym (ap (λ o. o .answer) outcome-read) ∙ e)
 
   module _ {counts : Sheet} {table : List (List ℕ)} (e : front .outcome .answer ≡ Accepted counts) (rows : table ≡ tableIn (front .outcome .rows)) where
     pub accepted-front : FrontRead text (front .next) (readingFront text) counts table
     accepted-front =
-        subst (FrontRead text (front .next) (readingFront text) counts) (sym (rows ∙ ap (λ o. tableIn (o .rows)) (read .sheet-read)))
-        (accepted-of text (front .next) (readingFront text) counts (sym (ap (λ o. o .answer) (read .sheet-read)) ∙ e) (read .left-off))
+        subst (FrontRead text (front .next) (readingFront text) counts) (sym (rows ∙ ap (λ o. tableIn (o .rows)) outcome-read))
+        (accepted-of text (front .next) (readingFront text) counts (sym (ap (λ o. o .answer) outcome-read) ∙ e) tokens-left)
 
     -- the counts are within the limits
     pub front-counts : CountsWithin (counts .agents) (counts .items)

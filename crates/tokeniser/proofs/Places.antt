@@ -1,14 +1,12 @@
--- The tokens at the first place of a text and at its end, and tests of the byte at a place. Assumes nothing.
-use mathlib.Core.Path.{_≡_, sym, ap, _∙_}
+-- The tokens at the first place of a text and at its end. Assumes nothing.
+use mathlib.Core.Path.{_≡_, sym, _∙_}
 use mathlib.Core.Logic.{⊎-elim}
 use mathlib.Core.List.{List, []}
 use mathlib.Core.Bool.{Bool}
 use Prim.Native.Nat.{ℕ, _≤_, _<_, min}
 use native.Mathlib.Omega.{arith}
-use lib.ListN.{length, getD, drop, drop-of-length-le, List·getD-eq-default}
+use lib.ListN.{length, drop, drop-of-length-le}
 use Rattle.lists.proofs.Cases.{lt-or-ge}
-use Rattle.lists.proofs.places.Defaults.{getD-default}
-use Rattle.tokens.specs.Lines.{space}
 use Rattle.tokens.specs.Tokens.{tokens}
 use Rattle.tokens.specs.After.{tokensAfter}
 use Rattle.tokeniser.specs.Places.{tokensAt, start, inside}
@@ -36,10 +34,3 @@ tokens-inside s c = ⊎-elim within beyond (lt-or-ge (c .at) (length s))
 pub inside-text : (s : List ℕ) (c : Cursor) → inside s c .at ≤ length s
 unfolding inside
 inside-text s c = omega arith
-
--- a test of the byte at a place: in the text, and at its end, which counts as a space
-pub test-inside : (test : ℕ → Bool) (s : List ℕ) (i : ℕ) (r : Bool) → i < length s → test (getD s i 0) ≡ r → test (getD s i space) ≡ r
-test-inside test s i r h e = ap test (getD-default space 0 s i h) ∙ e
-
-pub test-end : (test : ℕ → Bool) (s : List ℕ) (i : ℕ) → length s ≤ i → test (getD s i space) ≡ test space
-test-end test s i h = ap test (List·getD-eq-default s space h)

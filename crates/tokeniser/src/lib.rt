@@ -3,7 +3,7 @@ ghost use mathlib.Core.Path.{_≡_};
 ghost use Rattle.tokens.specs.Tokens;
 ghost use Rattle.tokeniser.specs.Places;
 ghost use Rattle.tokeniser.specs.Places.{tokensAt};
-ghost use Rattle.tokeniser.specs.NextToken.{NextToken};
+ghost use Rattle.tokeniser.specs.NextToken.{nextToken};
 use crate::scan::token_end;
 use crate::scan::token_start;
 
@@ -36,7 +36,7 @@ impl Cursor {
 }
 
 // The place, or the end of the text where it lies beyond it.
-pub fn inside(s: &[u8], c: Cursor) -> Cursor
+fn inside(s: &[u8], c: Cursor) -> Cursor
     ensures { λ r. ⌜ r ≡ Places.inside (now (s .entry)) c ⌝ }
 {
     if s.len() < c.at {
@@ -59,7 +59,7 @@ pub fn ended(s: &[u8], c: Cursor) -> bool
 
 // The next token, which is empty where none is left.
 pub fn next_token(s: &[u8], c: Cursor) -> Token
-    ensures { λ r. ⌜ NextToken (now (s .entry)) c r ⌝ }
+    ensures { λ r. ⌜ r ≡ nextToken (now (s .entry)) c ⌝ }
 {
     let here = inside(s, c);
     let at = here.at;
@@ -72,7 +72,7 @@ pub fn next_token(s: &[u8], c: Cursor) -> Token
             next: Cursor { at: from, begun },
         };
     }
-    let to = token_end(s, begun, from);
+    let to = token_end(s, from);
     let next = Cursor {
         at: to,
         begun: s[from] != b'\n',

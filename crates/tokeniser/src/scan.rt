@@ -1,11 +1,11 @@
 // Where tokens, and bytes that count for nothing, end.
-ghost use Prim.Native.Nat.{_≤_, _<_};
+ghost use Prim.Native.Nat.{_+_, _≤_, _<_};
 ghost use mathlib.Core.Path.{_≡_};
 ghost use mathlib.Core.Bool.{false};
-ghost use lib.ListN.{length, getD};
+ghost use lib.ListN.{length, getD, drop};
 ghost use Rattle.tokens.specs.Lines.{semicolon};
-ghost use Rattle.tokens.specs.After.{countsForNothing};
-ghost use Rattle.tokeniser.specs.internal.Scanned.{RemarkTo, Passed, BlankTo, WordTo, TokenTo};
+ghost use Rattle.tokeniser.specs.NextToken.{blanks};
+ghost use Rattle.tokeniser.specs.internal.Scanned.{RemarkTo, Passed, wordBytes, tokenBytes};
 use crate::bytes::counts_for_nothing;
 use crate::bytes::is_delimiter;
 use crate::bytes::is_word_byte;
@@ -40,7 +40,7 @@ fn pass(s: &[u8], at: usize) -> usize
 // The first place from `at` on where a token begins, or the end of the text.
 pub(crate) fn token_start(s: &[u8], at: usize, begun: bool) -> usize
     requires { ⌜ at ≤ length (now s) ⌝ }
-    ensures { λ r. ⌜ BlankTo (now (s .entry)) begun at r ⌝ }
+    ensures { λ r. ⌜ r ≡ at + blanks begun false (drop at (now (s .entry))) ⌝ }
 {
     let mut i = at;
     while i < s.len() {
@@ -55,7 +55,7 @@ pub(crate) fn token_start(s: &[u8], at: usize, begun: bool) -> usize
 // The first place from `from` on without a word byte.
 fn word_end(s: &[u8], from: usize) -> usize
     requires { ⌜ from ≤ length (now s) ⌝ }
-    ensures { λ r. ⌜ WordTo (now (s .entry)) from r ⌝ }
+    ensures { λ r. ⌜ r ≡ from + wordBytes (drop from (now (s .entry))) ⌝ }
 {
     let mut i = from;
     while i < s.len() {
@@ -68,10 +68,9 @@ fn word_end(s: &[u8], from: usize) -> usize
 }
 
 // The end of the token that begins at `from`.
-pub(crate) fn token_end(s: &[u8], begun: bool, from: usize) -> usize
+pub(crate) fn token_end(s: &[u8], from: usize) -> usize
     requires { ⌜ from < length (now s) ⌝ }
-    requires { ⌜ countsForNothing begun (getD (now s) from 0) ≡ false ⌝ }
-    ensures { λ r. ⌜ TokenTo (now (s .entry)) begun from r ⌝ }
+    ensures { λ r. ⌜ r ≡ from + tokenBytes (drop from (now (s .entry))) ⌝ }
 {
     if is_delimiter(s[from]) {
         from + 1

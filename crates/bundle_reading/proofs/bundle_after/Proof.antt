@@ -1,17 +1,22 @@
 -- `bundle_after` meets its contract: its parts are read one after another, or one of them is missed. Assumes nothing.
-use mathlib.Core.Path.{_≡_, _∙_}
-use mathlib.Core.Option.{some}
+use mathlib.Core.Path.{_≡_, ap, _∙_}
 use denote.Ref.{now}
 use Prim.Native.Nat.{min}
 use native.Mathlib.Omega.{arith}
 use borrow.Author.Needs.{needs}
 use Rattle.sheet.specs.Limits.{mostItems}
+use Rattle.sheet.specs.Sets.{setOf}
 use Rattle.tokens.specs.Tokens.{tokens}
 use Rattle.lexing.specs.Forms.{follow}
 use Rattle.tokeniser.specs.Places.{tokensAt}
+use Rattle.tokeniser.proofs.Behind.{reached-then, reached-place}
+use Rattle.lexing.proofs.readers.Places.{ReadTo, followed-missed, follow-read}
 use Rattle.bundle_reading.specs.Bundles.{risingItems, bundleAfter}
 use Rattle.bundle_reading.specs.Kept.{mapRead, keptBundle}
+use Rattle.bundle_reading.specs.Results.{bundleFrom}
+use Rattle.bundle_reading.specs.declared.Bundle.the-variants.{Items}
 use Rattle.bundle_reading.proofs.BundleKept.{bundle-kept}
+use Rattle.bundle_reading.proofs.Places.{risingItems-leaves, mapRead-leaves, bundle-missed, bundle-to, bundle-none}
 use Rattle.bundle_reading.proofs.bundle_after.Statement.{statement}
 use Rattle.bundle_reading.proofs.bundle_after.Tie as tie
 
@@ -21,8 +26,8 @@ start c = c .before .before .before .before .before .before
 
 -- what the form says, where it has been followed, and what the items say, where they have been read
 form-followed : (c : tie.After-c1) → let a = start c .args in
-    follow (tokens (now (a .form))) (tokensAt (now (a .s)) (a .c)) ≡ some (tokensAt (now (a .s)) (c .c1 .given .0 .0))
-form-followed c = (rw (c .c1 .given .1) at (c .before .before .follow .ensures)) .1
+    ReadTo (now (a .s)) (a .c) (follow (tokens (now (a .form))) (tokensAt (now (a .s)) (a .c))) (λ ts. ts) (c .c1 .given .0 .0)
+form-followed c = follow-read _ _ _ (c .before .before .follow .ensures) (c .c1 .given .1)
 
 abbrev form-point : tie.After-set → tie.After-c1
 form-point c = c .before .before .before .before
@@ -32,8 +37,10 @@ counted : (c : tie.After-c1) → c .before .before .before .lesser .result ≡ m
 counted c = c .before .before .before .lesser .ensures
 
 items-read : (c : tie.After-set) → let a = start (form-point c) .args in
-    keptBundle (risingItems (min (a .items) mostItems) 0 (tokensAt (now (a .s)) (form-point c .c1 .given .0 .0))) ≡ some (c .set .given .0 .0, tokensAt (now (a .s)) (c .set .given .0 .1 .0))
-items-read c = rw (c .set .given .1, counted (form-point c)) at (c .before .before .rising-items .ensures)
+    let place = form-point c .c1 .given .0 .0 in
+    ReadTo (now (a .s)) place (keptBundle (risingItems (min (a .items) mostItems) 0 (tokensAt (now (a .s)) place))) (λ ts. (c .set .given .0 .0, ts)) (c .set .given .0 .1 .0)
+items-read c =
+    bundle-to _ _ _ (mapRead-leaves setOf _ _ (risingItems-leaves _ 0 _)) (rw (counted (form-point c)) at (c .before .before .rising-items .ensures)) (c .set .given .1)
 
 lesser-requires : tie.Need-lesser-requires
 lesser-requires c κs = search needs
@@ -48,8 +55,8 @@ enum-told : tie.Need-enum-told
 enum-told c = search needs
 
 returns : tie.Need-returns
-unfolding bundleAfter mapRead
-returns c = rw (rw (c .enum-told .given .1) at (c .before .before .follow .ensures))
+unfolding bundleAfter mapRead bundleFrom
+returns c = rw (followed-missed _ _ _ (c .before .before .follow .ensures) (c .enum-told .given .1))
 
 rising-items-requires : tie.Need-rising-items-requires
 rising-items-requires c κs = omega arith
@@ -63,8 +70,8 @@ enum-told-2 c = search needs
 returns-2 : tie.Need-returns-2
 returns-2 c =
     let followed = c .before .before .before .before in
-    let missed = rw (c .enum-told2 .given .1, counted followed) at (c .before .before .rising-items .ensures) in
-    bundle-kept _ _ _ _ (form-followed followed) ∙ rw missed
+    let missed = bundle-missed _ _ _ (rw (counted followed) at (c .before .before .rising-items .ensures)) (c .enum-told2 .given .1) in
+    bundle-none _ _ (bundle-kept _ _ _ _ (form-followed followed .read) ∙ rw missed)
 
 slice-aggregate-follow : tie.Need-slice-aggregate-follow
 slice-aggregate-follow c = search needs
@@ -81,14 +88,17 @@ enum-told-3 c = search needs
 returns-3 : tie.Need-returns-3
 returns-3 c =
     let i = c .before .before .before .before .before in
-    let missed = rw (c .enum-told3 .given .1) at (c .before .before .follow2 .ensures) in
-    bundle-kept _ _ _ _ (form-followed (form-point i)) ∙ rw (items-read i, missed)
+    let missed = followed-missed _ _ _ (c .before .before .follow2 .ensures) (c .enum-told3 .given .1) in
+    bundle-none _ _ (bundle-kept _ _ _ _ (form-followed (form-point i) .read) ∙ rw (items-read i .read, missed))
 
 returns-4 : tie.Need-returns-4
+unfolding bundleFrom
 returns-4 c =
     let i = c .before .before .before .before .before .before in
-    let l = rw (c .before .c3 .given .1) at (c .before .before .before .follow2 .ensures) in
-    bundle-kept _ _ _ _ (form-followed (form-point i)) ∙ rw (items-read i, l .1)
+    let front = form-followed (form-point i) in
+    let end = follow-read _ _ _ (c .before .before .before .follow2 .ensures) (c .before .c3 .given .1) in
+    rw (bundle-kept _ (min (start (form-point i) .args .items) mostItems) _ _ (front .read), items-read i .read, end .read)
+    (ap (Items (i .set .given .0 .0)) (reached-place (reached-then (front .reached) (reached-then (items-read i .reached) (end .reached)))))
 
 pub bundle-after-spec : {M : Type 1} → statement M
 bundle-after-spec =

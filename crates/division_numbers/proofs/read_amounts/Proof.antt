@@ -1,13 +1,16 @@
 -- `read_amounts` meets its contract: its parts are read one after another, or one of them is missed. Assumes nothing.
+use mathlib.Core.Path.{ap}
 use denote.Ref.{now}
 use Rattle.sheet.specs.Limits.{sumDigits}
 use Rattle.lexing.specs.Forms.{form}
 use Rattle.lexing.specs.Numbers.{numberAfter}
 use Rattle.tokeniser.specs.Places.{tokensAt}
-use Rattle.lexing.specs.Results.{ReadsNumber}
-use Rattle.lexing.specs.declared.forms.Number.the-variants.{Value}
+use Rattle.tokeniser.proofs.Behind.{reached-then, reached-place}
+use Rattle.lexing.proofs.readers.Places.{ReadTo, number-missed, followed-missed, numberAfter-read, follow-read}
 use Rattle.division_numbers.specs.Forms.{beforeWorth, beforeShare}
 use Rattle.division_numbers.specs.Numbers.{amounts}
+use Rattle.division_numbers.specs.Results.{amountsFrom}
+use Rattle.division_numbers.specs.declared.Amounts.the-variants.{Values}
 use borrow.Author.Needs.{needs}
 use Rattle.division_numbers.proofs.read_amounts.Statement.{statement}
 use Rattle.division_numbers.proofs.read_amounts.Tie as tie
@@ -18,13 +21,13 @@ worth-point c = c .before .before .before .before .before
 
 -- what the two numbers say, where they have been read
 worth-read : (c : tie.After-worth) → let a = c .before .before .before .before .before .args in
-    ReadsNumber (now (a .s)) (Value (c .worth .given .0 .0) (c .worth .given .0 .1 .0)) (numberAfter (form beforeWorth) sumDigits (tokensAt (now (a .s)) (a .c)))
-worth-read c = rw (c .worth .given .1) at (c .before .before .number-after .ensures)
+    ReadTo (now (a .s)) (a .c) (numberAfter (form beforeWorth) sumDigits (tokensAt (now (a .s)) (a .c))) (λ ts. (c .worth .given .0 .0, ts)) (c .worth .given .0 .1 .0)
+worth-read c = numberAfter-read _ _ _ _ (c .before .before .number-after .ensures) (c .worth .given .1)
 
 share-read : (c : tie.After-share) → let h = worth-point c in
     let s = now (h .before .before .before .before .before .args .s) in
-    ReadsNumber s (Value (c .share .given .0 .0) (c .share .given .0 .1 .0)) (numberAfter (form beforeShare) sumDigits (tokensAt s (h .worth .given .0 .1 .0)))
-share-read c = rw (c .share .given .1) at (c .before .before .number-after2 .ensures)
+    ReadTo s (h .worth .given .0 .1 .0) (numberAfter (form beforeShare) sumDigits (tokensAt s (h .worth .given .0 .1 .0))) (λ ts. (c .share .given .0 .0, ts)) (c .share .given .0 .1 .0)
+share-read c = numberAfter-read _ _ _ _ (c .before .before .number-after2 .ensures) (c .share .given .1)
 
 slice-aggregate-number-after : tie.Need-slice-aggregate-number-after
 slice-aggregate-number-after c = search needs
@@ -39,8 +42,8 @@ enum-told : tie.Need-enum-told
 enum-told c = search needs
 
 returns : tie.Need-returns
-unfolding amounts
-returns c = rw (rw (c .enum-told .given .1) at (c .before .before .number-after .ensures))
+unfolding amounts amountsFrom
+returns c = rw (number-missed _ _ _ (c .before .before .number-after .ensures) (c .enum-told .given .1))
 
 slice-aggregate-number-after-2 : tie.Need-slice-aggregate-number-after-2
 slice-aggregate-number-after-2 c = search needs
@@ -55,9 +58,9 @@ enum-told-2 : tie.Need-enum-told-2
 enum-told-2 c = search needs
 
 returns-2 : tie.Need-returns-2
-unfolding amounts
+unfolding amounts amountsFrom
 returns-2 c =
-    rw (worth-read (c .before .before .before .before .before) .1, rw (c .enum-told2 .given .1) at (c .before .before .number-after2 .ensures))
+    rw (worth-read (c .before .before .before .before .before) .read, number-missed _ _ _ (c .before .before .number-after2 .ensures) (c .enum-told2 .given .1))
 
 slice-aggregate-follow : tie.Need-slice-aggregate-follow
 slice-aggregate-follow c = search needs
@@ -72,17 +75,19 @@ enum-told-3 : tie.Need-enum-told-3
 enum-told-3 c = search needs
 
 returns-3 : tie.Need-returns-3
-unfolding amounts
+unfolding amounts amountsFrom
 returns-3 c =
     let i = c .before .before .before .before .before in
-    rw (worth-read (worth-point i) .1, share-read i .1, rw (c .enum-told3 .given .1) at (c .before .before .follow .ensures))
+    rw (worth-read (worth-point i) .read, share-read i .read, followed-missed _ _ _ (c .before .before .follow .ensures) (c .enum-told3 .given .1))
 
 returns-4 : tie.Need-returns-4
-unfolding amounts
+unfolding amounts amountsFrom
 returns-4 c =
-    let l = rw (c .before .c3 .given .1) at (c .before .before .before .follow .ensures) in
+    let l = follow-read _ _ _ (c .before .before .before .follow .ensures) (c .before .c3 .given .1) in
     let i = c .before .before .before .before .before .before in
-    rw (worth-read (worth-point i) .1, share-read i .1, l .1)
+    let w = worth-point i in
+    rw (worth-read w .read, share-read i .read, l .read)
+    (ap (Values (w .worth .given .0 .0) (i .share .given .0 .0)) (reached-place (reached-then (worth-read w .reached) (reached-then (share-read i .reached) (l .reached)))))
 
 pub read-amounts-spec : {M : Type 1} → statement M
 read-amounts-spec =

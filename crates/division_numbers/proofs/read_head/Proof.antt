@@ -1,14 +1,18 @@
 -- `read_head` meets its contract: its parts are read one after another, or one of them is missed. Assumes nothing.
-use mathlib.Core.Path.{_≡_}
+use mathlib.Core.Path.{ap}
 use mathlib.Core.List.{List}
-use mathlib.Core.Option.{some}
 use Prim.Native.Nat.{ℕ}
 use denote.Ref.{now}
 use borrow.Author.Needs.{needs}
 use Rattle.sheet.specs.Limits.{countDigits}
 use Rattle.lexing.specs.Forms.{form}
 use Rattle.lexing.specs.Numbers.{numberAfter, followNumber}
+use Rattle.lexing.specs.Results.{numberFrom}
+use Rattle.lexing.specs.declared.forms.Number.the-variants.{Value}
+use Rattle.lexing.proofs.readers.Suffixes.{numberAfter-leaves}
+use Rattle.lexing.proofs.readers.Places.{ReadTo, followed-missed, number-missed, number-to, number-none, follow-read, followNumber-read}
 use Rattle.tokeniser.specs.Places.{tokensAt}
+use Rattle.tokeniser.proofs.Behind.{reached-then, reached-place}
 use Rattle.sheet_lines.specs.SheetForms.{beforeItems}
 use Rattle.division_numbers.specs.Forms.{beforeCounts, beforeGrade}
 use Rattle.division_numbers.specs.Numbers.{gradeDigits, head}
@@ -27,18 +31,18 @@ abbrev textOf : tie.After-c1 → List ℕ
 textOf c = now (c .before .before .before .before .before .args .s)
 
 agents-read : (c : tie.After-c1) → let a = c .before .before .before .before .before .args in
-    followNumber (form beforeCounts) countDigits (a .agents) (tokensAt (textOf c) (a .c)) ≡ some (tokensAt (textOf c) (c .c1 .given .0 .0))
-agents-read c = (rw (c .c1 .given .1) at (c .before .before .follow-number .ensures)) .1
+    ReadTo (textOf c) (a .c) (followNumber (form beforeCounts) countDigits (a .agents) (tokensAt (textOf c) (a .c))) (λ ts. ts) (c .c1 .given .0 .0)
+agents-read c = followNumber-read _ _ _ _ _ (c .before .before .follow-number .ensures) (c .c1 .given .1)
 
 items-read : (c : tie.After-c2) → let h = agents-point c in
-    followNumber (form beforeItems) countDigits (h .before .before .before .before .before .args .items) (tokensAt (textOf h) (h .c1 .given .0 .0))
-    ≡ some (tokensAt (textOf h) (c .c2 .given .0 .0))
-items-read c = (rw (c .c2 .given .1) at (c .before .before .follow-number2 .ensures)) .1
+    let place = h .c1 .given .0 .0 in
+    ReadTo (textOf h) place (followNumber (form beforeItems) countDigits (h .before .before .before .before .before .args .items) (tokensAt (textOf h) place)) (λ ts. ts) (c .c2 .given .0 .0)
+items-read c = followNumber-read _ _ _ _ _ (c .before .before .follow-number2 .ensures) (c .c2 .given .1)
 
 grade-read : (c : tie.After-grade) → let i = items-point c in
     let s = textOf (agents-point i) in
-    numberAfter (form beforeGrade) gradeDigits (tokensAt s (i .c2 .given .0 .0)) ≡ some (c .grade .given .0 .0, tokensAt s (c .grade .given .0 .1 .0))
-grade-read c = (rw (c .grade .given .1) at (c .before .before .number-after .ensures)) .1
+    ReadTo s (i .c2 .given .0 .0) (numberAfter (form beforeGrade) gradeDigits (tokensAt s (i .c2 .given .0 .0))) (λ ts. (c .grade .given .0 .0, ts)) (c .grade .given .0 .1 .0)
+grade-read c = number-to _ _ _ (numberAfter-leaves _ _ _) (c .before .before .number-after .ensures) (c .grade .given .1)
 
 slice-aggregate-follow-number : tie.Need-slice-aggregate-follow-number
 slice-aggregate-follow-number c = search needs
@@ -54,7 +58,7 @@ enum-told c = search needs
 
 returns : tie.Need-returns
 unfolding head
-returns c = rw (rw (c .enum-told .given .1) at (c .before .before .follow-number .ensures))
+returns c = number-none _ _ (rw (followed-missed _ _ _ (c .before .before .follow-number .ensures) (c .enum-told .given .1)))
 
 slice-aggregate-follow-number-2 : tie.Need-slice-aggregate-follow-number-2
 slice-aggregate-follow-number-2 c = search needs
@@ -71,8 +75,8 @@ enum-told-2 c = search needs
 returns-2 : tie.Need-returns-2
 unfolding head
 returns-2 c =
-    let missed = rw (c .enum-told2 .given .1) at (c .before .before .follow-number2 .ensures) in
-    rw (agents-read (c .before .before .before .before .before), missed)
+    let missed = followed-missed _ _ _ (c .before .before .follow-number2 .ensures) (c .enum-told2 .given .1) in
+    number-none _ _ (rw (agents-read (c .before .before .before .before .before) .read, missed))
 
 slice-aggregate-number-after : tie.Need-slice-aggregate-number-after
 slice-aggregate-number-after c = search needs
@@ -90,8 +94,8 @@ returns-3 : tie.Need-returns-3
 unfolding head
 returns-3 c =
     let i = c .before .before .before .before .before in
-    let missed = rw (c .enum-told3 .given .1) at (c .before .before .number-after .ensures) in
-    rw (agents-read (agents-point i), items-read i, missed)
+    let missed = number-missed _ _ _ (c .before .before .number-after .ensures) (c .enum-told3 .given .1) in
+    number-none _ _ (rw (agents-read (agents-point i) .read, items-read i .read, missed))
 
 slice-aggregate-follow : tie.Need-slice-aggregate-follow
 slice-aggregate-follow c = search needs
@@ -110,16 +114,18 @@ unfolding head
 returns-4 c =
     let g = c .before .before .before .before .before in
     let i = items-point g in
-    let missed = rw (c .enum-told4 .given .1) at (c .before .before .follow .ensures) in
-    rw (agents-read (agents-point i), items-read i, grade-read g, missed)
+    let missed = followed-missed _ _ _ (c .before .before .follow .ensures) (c .enum-told4 .given .1) in
+    number-none _ _ (rw (agents-read (agents-point i) .read, items-read i .read, grade-read g .read, missed))
 
 returns-5 : tie.Need-returns-5
-unfolding head
+unfolding head numberFrom
 returns-5 c =
     let g = c .before .before .before .before .before .before in
     let i = items-point g in
-    let l = rw (c .before .c4 .given .1) at (c .before .before .before .follow .ensures) in
-    (l .0, rw (agents-read (agents-point i), items-read i, grade-read g, l .1))
+    let a = agents-read (agents-point i) in
+    let l = follow-read _ _ _ (c .before .before .before .follow .ensures) (c .before .c4 .given .1) in
+    rw (a .read, items-read i .read, grade-read g .read, l .read)
+    (ap (Value (g .grade .given .0 .0)) (reached-place (reached-then (a .reached) (reached-then (items-read i .reached) (reached-then (grade-read g .reached) (l .reached))))))
 
 pub read-head-spec : {M : Type 1} → statement M
 read-head-spec =

@@ -8,19 +8,29 @@ use lib.ListN.{length, length-map}
 use lib.Seq.{sets}
 use Rattle.lists.specs.Lists.{zeros}
 use Rattle.lists.proofs.places.Padding.{sets-blank}
-use Rattle.sheet.specs.Limits.{mostAgents}
+use Rattle.sheet.specs.Limits.{mostAgents, countDigits}
 use Rattle.sheet.specs.Sets.{setOf}
 use Rattle.tokens.specs.Tokens.{Token}
 use Rattle.lexing.specs.Forms.{form, follow}
+use Rattle.lexing.specs.Numbers.{followNumber}
 use Rattle.lexing.proofs.readers.InTurn.{in-turn-length}
-use Rattle.sheet_lines.specs.SheetForms.{lineEnd}
-use Rattle.division_reading.specs.DivisionForms.{beforeCutPile}
+use Rattle.lexing.proofs.readers.Suffixes.{LeavesEnd, then-leaves, followNumber-leaves}
+use Rattle.sheet_lines.specs.SheetForms.{beforeTurn, lineEnd}
+use Rattle.division_reading.specs.DivisionForms.{beforePile, beforeCutPile}
 use Rattle.division_reading.specs.Grammar.{bundleAfter, bundleInTurn, amounts, cutBundles, yardLine}
 use Rattle.division_reading.specs.Outcome.{keptLine, cutSets}
 use Rattle.bundle_reading.specs.Kept.{mapRead, keptBundle}
 use Rattle.division_reading.specs.internal.Kept.{keptCut}
 use Rattle.division_reading.specs.declared.StatedLine as line
 use Rattle.bundle_reading.proofs.MapRead.{ReadFrom, read-from, none-read}
+use Rattle.bundle_reading.proofs.Places.{bundleAfter-leaves}
+
+-- what is left behind the front of a yard line is the end of the tokens
+pub bundleInTurn-leaves : (items turn : ℕ) (ts : List Token) → LeavesEnd (λ r. r .1) ts (bundleInTurn items turn ts)
+unfolding bundleInTurn
+bundleInTurn-leaves items turn ts =
+    then-leaves ts (followNumber (form beforeTurn) countDigits turn ts) _ (λ us. us) (λ r. r .1) (followNumber-leaves (form beforeTurn) countDigits turn ts)
+    (bundleAfter-leaves (form beforePile) items)
 
 -- the bundles of a cut in their places
 cut-stored : (agents items : ℕ) (ts : List Token) (cut : List (List ℕ)) (ts′ : List Token) → agents ≤ mostAgents → cutBundles agents items ts ≡ some (cut, ts′)

@@ -9,6 +9,9 @@ use borrow.Author.Tests.{not-true, not-false}
 use Rattle.sheet.specs.Limits.{mostAgents, mostItems}
 use Rattle.tokeniser.specs.Places.{tokensAt}
 use Rattle.lexing.specs.Forms.{ended}
+use Rattle.lexing.proofs.readers.Places.{number-missed, followed-missed, followed-to}
+use Rattle.sheet_lines.proofs.Suffixes.{endLine-leaves}
+use Rattle.division_numbers.proofs.Places.{head-read as head-to}
 use Rattle.sheet_lines.specs.Grammar.{endLine}
 use Rattle.division_reading.specs.Grammar.{head, yardLines}
 use Rattle.division_reading.specs.Outcome.{kept}
@@ -41,7 +44,7 @@ few-items c = omega arith
 -- what each part says where it has been read
 head-read : (c : tie.After-grade) → let a = start (counts-point c) .args in
     head (a .agents) (a .items) (tokensAt (now (a .s)) (a .c)) ≡ some (c .grade .given .0 .0, tokensAt (now (a .s)) (c .grade .given .0 .1 .0))
-head-read c = (rw (c .grade .given .1) at (c .before .before .read-head .ensures)) .1
+head-read c = head-to _ _ _ _ (c .before .before .read-head .ensures) (c .grade .given .1) .read
 
 lines-read : (c : tie.Else3) → let h = head-point c in
     let a = start (counts-point h) .args in
@@ -52,7 +55,7 @@ lines-read c = rw (not-false (c .before .before .yard-lines .result .read) (c .i
 text-ended : (c : tie.After-enum-told2) → let l = lines-point c in
     let s = now (start (counts-point (head-point l)) .args .s) in
     endLine ended (tokensAt s (l .before .before .yard-lines .result .next)) ≡ some (tokensAt s (c .enum-told2 .given .0 .0))
-text-ended c = (rw (c .enum-told2 .given .1) at (c .before .before .end-line .ensures)) .1
+text-ended c = followed-to _ _ _ (endLine-leaves _ _) (c .before .before .end-line .ensures) (c .enum-told2 .given .1) .read
 
 unread-requires : tie.Need-unread-requires
 unread-requires c κs = search needs
@@ -82,7 +85,7 @@ returns-3 : tie.Need-returns-3
 returns-3 c =
     let read = c .before .before .before in
     let counts = read .before in
-    let missed = rw (c .before .enum-told .given .1) at (read .read-head .ensures) in
+    let missed = number-missed _ _ _ (read .read-head .ensures) (c .before .enum-told .given .1) in
     c .unread3 .ensures ∙ ap kept (sym (head-missed _ _ _ (few-agents counts) (few-items counts) missed))
 
 yard-lines-requires : tie.Need-yard-lines-requires
@@ -116,7 +119,7 @@ returns-5 c =
     let ended = c .before .before .before in
     let l = ended .before .before in
     let counts = counts-point (head-point l) in
-    let missed = rw (c .before .enum-told3 .given .1) at (ended .end-line .ensures) in
+    let missed = followed-missed _ _ _ (ended .end-line .ensures) (c .before .enum-told3 .given .1) in
     c .unread5 .ensures ∙ ap kept (sym (end-missed _ _ _ (few-agents counts) (few-items counts) _ _ (head-read (head-point l)) _ _ (lines-read l) missed))
 
 cast-t13 : tie.Need-cast-t13

@@ -1,5 +1,5 @@
 -- `sheet_at_front` meets its contract: refusals 1 to 8 in turn, or the counts and the rows. Assumes nothing.
-use mathlib.Core.Path.{_≡_, refl, sym, ap, _∙_}
+use mathlib.Core.Path.{_≡_, sym, ap, ap₂, _∙_}
 use mathlib.Core.List.{List}
 use mathlib.Core.Option.{none, some}
 use mathlib.Core.Bool.{true, false}
@@ -16,17 +16,18 @@ use Rattle.sheet.proofs.Limits.{within-bounds}
 use Rattle.tokens.specs.Tokens.{tokens}
 use Rattle.tokeniser.specs.Places.{tokensAt, start}
 use Rattle.tokeniser.proofs.Places.{tokens-start}
-use Rattle.lexing.specs.Results.{Follows}
-use Rattle.lexing.specs.declared.forms.Followed.the-variants.{At}
+use Rattle.tokeniser.proofs.Behind.{reached-then, reached-place}
+use Rattle.lexing.proofs.readers.Places.{ReadTo, followed-missed, followed-to}
 use Rattle.sheet_lines.specs.Grammar.{head, body, endLine}
 use Rattle.sheet_lines.specs.Alone.{mayFollow}
-use Rattle.sheet_lines.specs.Results.{ReadsBody}
+use Rattle.sheet_lines.specs.Results.{bodyFrom}
+use Rattle.sheet_lines.proofs.Suffixes.{body-leaves, endLine-leaves}
+use Rattle.sheet_lines.proofs.Places.{head-missed, head-read as head-to}
 use Rattle.sheet_lines.proofs.LinesGive.{unread-missed, Read, is-read-gives}
 use Rattle.sheet_lines.proofs.kept.StoredTable.{allowed-kept}
 use Rattle.reading.specs.Reading.{contentsOf}
-use Rattle.reading.specs.Outcome.{outcome, ReadsFront}
+use Rattle.reading.specs.Outcome.{refusedFront, frontFrom}
 use Rattle.reading.specs.declared.Answer.the-variants.{Accepted}
-use Rattle.reading.specs.declared.Outcome.{Outcome}
 use Rattle.reading.specs.declared.Front.{Front}
 use Rattle.reading.proofs.sheet_at_front.Statement.{statement}
 use Rattle.reading.proofs.sheet_at_front.Tie as tie
@@ -58,8 +59,10 @@ from-start : (c : tie.After-read-head) → head (tokensAt (textOf (c .before .be
 from-start c = ap head (ap (tokensAt (textOf (c .before .before))) (c .before .start .ensures) ∙ tokens-start (textOf (c .before .before)))
 
 head-read : (c : tie.After-agents) → let text = textOf (byte-passed c) in
-    head (tokens text) ≡ some (c .agents .given .0 .0, c .agents .given .0 .1 .0, tokensAt text (c .agents .given .0 .1 .1 .0))
-head-read c = sym (from-start (c .before .before)) ∙ rw (c .agents .given .1) at (c .before .before .read-head .ensures)
+    ReadTo text start (head (tokens text)) (λ ts. (c .agents .given .0 .0, c .agents .given .0 .1 .0, ts)) (c .agents .given .0 .1 .1 .0)
+head-read c =
+    let read = c .before .before in
+    rw (read .before .start .ensures, tokens-start) at (head-to (textOf (read .before .before)) (read .before .start .result) (read .read-head .ensures) (c .agents .given .1))
 
 agents-within : (c : tie.Else3) → within mostAgents (counts-read c .agents .given .0 .0) ≡ true
 agents-within c = sym (c .before .is-within .ensures) ∙ not-false _ (c .if3 .left)
@@ -77,7 +80,7 @@ before-lines c =
     let a = agents-passed c in
     let h = counts-read a in
     let b = byte-passed h in
-    (short b, some-byte b, head-read h, agents-within a, items-within c)
+    (short b, some-byte b, head-read h .read, agents-within a, items-within c)
 
 -- the lines are read with these counts, which are within the limits
 lesser-first : (a b : ℕ) → a ≤ b → min a b ≡ a
@@ -85,7 +88,8 @@ lesser-first a b few = omega arith
 
 body-told : (c : tie.After-read-body) → let h = counts-read (agents-passed (c .before)) in
     let text = textOf (byte-passed h) in
-    ReadsBody text (c .read-body .result) (body markDigits (h .agents .given .0 .0) (h .agents .given .0 .1 .0) (tokensAt text (h .agents .given .0 .1 .1 .0)))
+    let place = h .agents .given .0 .1 .1 .0 in
+    c .read-body .result ≡ bodyFrom text place (body markDigits (h .agents .given .0 .0) (h .agents .given .0 .1 .0) (tokensAt text place))
 body-told c =
     let h = counts-read (agents-passed (c .before)) in
     let few = lesser-first (h .agents .given .0 .0) mostAgents (within-bounds _ _ (agents-within (agents-passed (c .before))) .1) in
@@ -94,15 +98,16 @@ body-told c =
 
 lines-missed : (c : tie.After-read-body) → c .read-body .result .read ≡ false → let h = counts-read (agents-passed (c .before)) in
     body markDigits (h .agents .given .0 .0) (h .agents .given .0 .1 .0) (tokensAt (textOf (byte-passed h)) (h .agents .given .0 .1 .1 .0)) ≡ none
-lines-missed c e = unread-missed _ _ _ (body-told c) e
+lines-missed c e = unread-missed _ _ _ _ (body-told c) e
 
 abbrev lines-point : tie.Else5 → tie.After-read-body
 lines-point c = c .before .before
 
 lines-read : (c : tie.Else5) → let h = counts-read (agents-passed (items-passed c)) in
     let text = textOf (byte-passed h) in
-    Read text (lines-point c .read-body .result) (body markDigits (h .agents .given .0 .0) (h .agents .given .0 .1 .0) (tokensAt text (h .agents .given .0 .1 .1 .0)))
-lines-read c = is-read-gives _ _ _ (body-told (lines-point c)) (not-false (lines-point c .read-body .result .read) (c .if5 .left))
+    let place = h .agents .given .0 .1 .1 .0 in
+    Read text place (lines-point c .read-body .result) (body markDigits (h .agents .given .0 .0) (h .agents .given .0 .1 .0) (tokensAt text place))
+lines-read c = is-read-gives _ _ _ _ (body-leaves _ _ _ _) (body-told (lines-point c)) (not-false (lines-point c .read-body .result .read) (c .if5 .left))
 
 -- the line `(end)`, where it follows the lines
 abbrev lines-passed : tie.After-next → tie.Else5
@@ -110,24 +115,26 @@ lines-passed c = c .before .before .before .before
 
 end-read : (c : tie.After-next) → let l = lines-passed c in
     let b = byte-passed (counts-read (agents-passed (items-passed l))) in
-    Follows (textOf b) (At (c .next .given .0 .0)) (endLine (mayFollow (b .before .before .before .args .alone)) (lines-read l .behind))
-end-read c = rw (lines-read (lines-passed c) .gives .leaves) at (rw (c .next .given .1) at (c .before .before .end-line .ensures))
+    ReadTo (textOf b) (lines-point l .read-body .result .next) (endLine (mayFollow (b .before .before .before .args .alone)) (lines-read l .behind)) (λ ts. ts) (c .next .given .0 .0)
+end-read c =
+    rw (lines-read (lines-passed c) .gives .leaves .tokens-left) at (followed-to _ _ _ (endLine-leaves _ _) (c .before .before .end-line .ensures) (c .next .given .1))
 
 -- what a refusal gives
-refusal : {s : List ℕ} {r : Front} {number : ℕ} → (r .outcome ≡ outcome (Answers.refused number)) × (r .next ≡ start) → ReadsFront s r (Answers.refused number)
-refusal told = record { sheet-read = told .0; left-off = told .1 }
+refusal : (s : List ℕ) {r : Front} {number : ℕ} → r ≡ refusedFront number → r ≡ frontFrom s (Answers.refused number)
+unfolding frontFrom
+refusal s told = told
 
 refused-requires : tie.Need-refused-requires
 refused-requires c κs = search needs
 
 returns : tie.Need-returns
-returns c = rw (lt-leb (length (now (c .before .before .before .args .text))) longestText (omega arith)) (refusal (c .refused .ensures))
+returns c = rw (lt-leb (length (now (c .before .before .before .args .text))) longestText (omega arith)) (refusal _ (c .refused .ensures))
 
 refused-requires-2 : tie.Need-refused-requires-2
 refused-requires-2 c κs = search needs
 
 returns-2 : tie.Need-returns-2
-returns-2 c = rw (c .before .if2 .taken) (refusal (c .refused2 .ensures))
+returns-2 c = rw (c .before .if2 .taken) (refusal _ (c .refused2 .ensures))
 
 start-requires : tie.Need-start-requires
 start-requires c κs = search needs
@@ -148,8 +155,8 @@ returns-3 : tie.Need-returns-3
 returns-3 c =
     let at-head = c .before .before .before in
     let b = at-head .before .before in
-    let missed = sym (from-start at-head) ∙ rw (c .before .enum-told .given .1) at (at-head .read-head .ensures) in
-    rw (short b, some-byte b, missed) (refusal (c .refused3 .ensures))
+    let missed = sym (from-start at-head) ∙ head-missed _ _ (at-head .read-head .ensures) (c .before .enum-told .given .1) in
+    rw (short b, some-byte b, missed) (refusal _ (c .refused3 .ensures))
 
 is-within-requires : tie.Need-is-within-requires
 is-within-requires c κs = search needs
@@ -162,7 +169,7 @@ returns-4 c =
     let h = c .before .before .before .before in
     let b = byte-passed h in
     let outside = sym (c .before .before .is-within .ensures) ∙ not-true _ (c .before .if3 .taken) in
-    rw (short b, some-byte b, head-read h, outside) (refusal (c .refused4 .ensures))
+    rw (short b, some-byte b, head-read h .read, outside) (refusal _ (c .refused4 .ensures))
 
 is-within-requires-2 : tie.Need-is-within-requires-2
 is-within-requires-2 c κs = search needs
@@ -176,7 +183,7 @@ returns-5 c =
     let h = counts-read a in
     let b = byte-passed h in
     let outside = sym (c .before .before .is-within2 .ensures) ∙ not-true _ (c .before .if4 .taken) in
-    rw (short b, some-byte b, head-read h, agents-within a, outside) (refusal (c .refused5 .ensures))
+    rw (short b, some-byte b, head-read h .read, agents-within a, outside) (refusal _ (c .refused5 .ensures))
 
 read-body-requires : tie.Need-read-body-requires
 read-body-requires c κs = search needs
@@ -189,7 +196,7 @@ returns-6 c =
     let lines = c .before .before .before in
     let p = before-lines (lines .before) in
     let missed = lines-missed lines (not-true (lines .read-body .result .read) (c .before .if5 .taken)) in
-    rw (p .0, p .1, p .2, p .3, p .4, missed) (refusal (c .refused6 .ensures))
+    rw (p .0, p .1, p .2, p .3, p .4, missed) (refusal _ (c .refused6 .ensures))
 
 end-line-requires : tie.Need-end-line-requires
 end-line-requires c κs = search needs
@@ -209,8 +216,8 @@ returns-7 c =
     let l = at-end .before .before in
     let p = before-lines (items-passed l) in
     let r = lines-read l in
-    let missed = rw (r .gives .leaves) at (rw (c .before .enum-told2 .given .1) at (at-end .end-line .ensures)) in
-    rw (p .0, p .1, p .2, p .3, p .4, r .are, missed) (refusal (c .refused7 .ensures))
+    let missed = rw (r .gives .leaves .tokens-left) at (followed-missed _ _ _ (at-end .end-line .ensures) (c .before .enum-told2 .given .1)) in
+    rw (p .0, p .1, p .2, p .3, p .4, r .are, missed) (refusal _ (c .refused7 .ensures))
 
 refused-requires-8 : tie.Need-refused-requires-8
 refused-requires-8 c κs = search needs
@@ -223,10 +230,10 @@ returns-8 c =
     let p = before-lines (items-passed l) in
     let r = lines-read l in
     let large = sym (r .gives .tested) ∙ not-true (lines-point l .read-body .result .allowed) (c .before .if6 .taken) in
-    rw (p .0, p .1, p .2, p .3, p .4, r .are, end-read n .1, large) (refusal (c .refused8 .ensures))
+    rw (p .0, p .1, p .2, p .3, p .4, r .are, end-read n .read, large) (refusal _ (c .refused8 .ensures))
 
 returns-9 : tie.Need-returns-9
-unfolding contentsOf
+unfolding contentsOf frontFrom
 returns-9 c =
     let n = c .before .before .before .before in
     let l = lines-passed n in
@@ -235,13 +242,11 @@ returns-9 c =
     let r = lines-read l in
     let end = end-read n in
     let small = sym (r .gives .tested) ∙ not-false (lines-point l .read-body .result .allowed) (c .before .if6 .left) in
-    rw (p .0, p .1, p .2, p .3, p .4, r .are, end .1, small)
-    (record {
-      sheet-read =
-          ap {B = Outcome} (λ rows. record { answer = Accepted (record { agents = h .agents .given .0 .0; items = h .agents .given .0 .1 .0 }); rows = rows })
-          (r .gives .filled ∙ allowed-kept (r .lines .rows) small);
-      left-off = (end .0, refl);
-    })
+    rw (p .0, p .1, p .2, p .3, p .4, r .are, end .read, small)
+    (ap₂ {C = Front}
+    (λ rows next. record { outcome = record { answer = Accepted (record { agents = h .agents .given .0 .0; items = h .agents .given .0 .1 .0 }); rows = rows }; next = next })
+    (r .gives .filled ∙ allowed-kept (r .lines .rows) small)
+    (reached-place (reached-then (head-read h .reached) (reached-then (r .gives .leaves .reached) (end .reached)))))
 
 pub sheet-at-front-spec : {M : Type 1} → statement M
 sheet-at-front-spec =

@@ -1,27 +1,29 @@
--- Each kind of result of the private functions, against what the grammar reads from the tokens at a place. Assumes nothing: these are
--- definitions.
-use mathlib.Core.Path.{_≡_}
+-- What the private functions answer for what the grammar reads from the tokens at a place: nothing, or what is kept of it, and the place
+-- just behind it. Assumes nothing: these are definitions.
 use mathlib.Core.List.{List}
 use mathlib.Core.Option.{Option, none, some}
 use mathlib.Core.Bool.{Bool, true, false}
 use Prim.Native.Nat.{ℕ}
+use Rattle.sheet.specs.Limits.{blankRow}
 use Rattle.tokens.specs.Tokens.{Token}
-use Rattle.tokeniser.specs.Places.{tokensAt}
+use Rattle.tokeniser.specs.Places.{start}
+use Rattle.tokeniser.specs.Behind.{placeLeft}
+use Rattle.tokeniser.specs.declared.Cursor.{Cursor}
 use Rattle.sheet_lines.specs.Results.{unreadBody}
 use Rattle.sheet_lines.specs.declared.yards.Yard.{Yard}
 use Rattle.sheet_lines.specs.declared.yards.Line.{Line}
 use Rattle.sheet_lines.specs.declared.body.Body.{Body}
 
--- what is read, where something is: else nothing is said of the other fields
-abbrev pub ReadIf : {A : Type 0} → Bool → A → Option A → Type 0
-ReadIf true a o = o ≡ some a
-ReadIf false a o = o ≡ none
+-- a line that is not as it should be gives nothing
+abbrev pub unreadLine : Line
+unreadLine = record { read = false; allowed = false; row = blankRow; next = start }
 
 -- the marks of a line
-abbrev pub ReadsLine : List ℕ → Line → Option (List ℕ × Bool × List Token) → Type 0
-ReadsLine s r o = ReadIf (r .read) (r .row, r .allowed, tokensAt s (r .next)) o
+unfoldable pub lineFrom : List ℕ → Cursor → Option (List ℕ × Bool × List Token) → Line
+lineFrom s c none = unreadLine
+lineFrom s c (some (row, allowed, ts)) = record { read = true; allowed = allowed; row = row; next = placeLeft s c ts }
 
 -- the yard lines
-abbrev pub ReadsLines : List ℕ → Body → Option (List Yard × Bool × List Token) → Type 0
-ReadsLines s r none = r ≡ unreadBody
-ReadsLines s r (some (yards, allowed, ts)) = (r .read ≡ true) × (r .yards ≡ yards) × (r .allowed ≡ allowed) × (tokensAt s (r .next) ≡ ts)
+unfoldable pub linesFrom : List ℕ → Cursor → Option (List Yard × Bool × List Token) → Body
+linesFrom s c none = unreadBody
+linesFrom s c (some (yards, allowed, ts)) = record { read = true; allowed = allowed; yards = yards; next = placeLeft s c ts }

@@ -1,9 +1,6 @@
 -- `ended` meets its contract: no token is left exactly where none begins before the end. Assumes nothing.
-use mathlib.Core.Path.{ap, _∙_}
-use Rattle.tokens.specs.Tokens.{ended}
-use Rattle.tokeniser.specs.Places.{tokensAt}
-use Rattle.tokeniser.proofs.Places.{tokens-inside, inside-text}
-use Rattle.tokeniser.proofs.NextToken.{ended-at}
+use Rattle.tokeniser.proofs.Places.{inside-text}
+use Rattle.tokeniser.proofs.NextToken.{start-from-inside, ended-at}
 use borrow.Author.Needs.{needs}
 use Rattle.tokeniser.proofs.ended.Statement.{statement}
 use Rattle.tokeniser.proofs.ended.Tie as tie
@@ -15,7 +12,7 @@ token-start-requires : tie.Need-token-start-requires
 token-start-requires c κs = rw (c .inside .ensures) (inside-text _ _)
 
 returns : tie.Need-returns
-returns c = ended-at _ _ _ (c .token-start .ensures) ∙ ap ended (ap (tokensAt _) (c .before .inside .ensures) ∙ tokens-inside _ _)
+returns c = rw (start-from-inside _ _ (c .before .inside .ensures) (c .token-start .ensures)) (ended-at _ _)
 
 pub ended-spec : {M : Type 1} → statement M
 ended-spec = tie.close (tie.spec inside-requires token-start-requires returns)

@@ -1,11 +1,14 @@
 -- `lines::bundle_in_turn` meets its contract: its parts are read one after another, or one of them is missed. Assumes nothing.
-use mathlib.Core.Path.{_≡_}
+use mathlib.Core.Path.{_≡_, _∙_}
 use Prim.Native.Nat.{min}
 use native.Mathlib.Omega.{arith}
 use borrow.Author.Needs.{needs}
 use Rattle.sheet.specs.Limits.{mostItems}
+use Rattle.sheet.specs.Sets.{setOf}
+use Rattle.lexing.proofs.readers.Places.{followed-missed, followNumber-read}
 use Rattle.division_reading.specs.Grammar.{bundleInTurn}
 use Rattle.bundle_reading.specs.Kept.{mapRead}
+use Rattle.bundle_reading.proofs.Places.{bundleAfter-leaves, mapRead-leaves, bundle-none, bundle-then}
 use Rattle.division_reading.proofs.lines.bundle_in_turn.Statement.{statement}
 use Rattle.division_reading.proofs.lines.bundle_in_turn.Tie as tie
 
@@ -23,7 +26,7 @@ enum-told c = search needs
 
 returns : tie.Need-returns
 unfolding bundleInTurn mapRead
-returns c = rw (rw (c .enum-told .given .1) at (c .before .before .follow-number .ensures))
+returns c = bundle-none _ _ (rw (followed-missed _ _ _ (c .before .before .follow-number .ensures) (c .enum-told .given .1)))
 
 slice-aggregate-bundle-after : tie.Need-slice-aggregate-bundle-after
 slice-aggregate-bundle-after c = search needs
@@ -36,9 +39,9 @@ unfolding bundleInTurn
 returns-2 c =
     let followed = c .before .before .before .before .before in
     let a = followed .before .before .before .args in
-    let h = rw (c .before .before .before .next .given .1) at (followed .follow-number .ensures) in
+    let h = followNumber-read _ _ _ _ _ (followed .follow-number .ensures) (c .before .before .before .next .given .1) in
     let few : min (a .items) mostItems ≡ a .items = omega arith in
-    rw (h .1) (rw few at (c .bundle-after .ensures))
+    rw (h .read) ((rw few at (c .bundle-after .ensures)) ∙ bundle-then _ (h .reached) (mapRead-leaves setOf _ _ (bundleAfter-leaves _ _ _)))
 
 pub bundle-in-turn-spec : {M : Type 1} → statement M
 bundle-in-turn-spec =

@@ -9,6 +9,7 @@ use Rattle.sheet.specs.Limits.{mostAgents, mostItems}
 use Rattle.sheet.specs.Sets.{setOf}
 use Rattle.lexing.specs.Forms.{form, inTurn}
 use Rattle.tokeniser.specs.Places.{tokensAt}
+use Rattle.bundle_reading.proofs.Places.{bundle-missed, bundleAfter-read}
 use Rattle.division_reading.specs.DivisionForms.{beforeCutPile}
 use Rattle.division_reading.specs.Grammar.{bundleAfter, cutBundles}
 use Rattle.division_reading.specs.internal.Kept.{keptAfter, keptCut}
@@ -47,7 +48,7 @@ returns c =
     let a = turn .before .before .before .args in
     let few : min (a .items) mostItems ≡ a .items = omega arith in
     turn .before .loop .inv .2
-    ∙ kept-missed _ _ _ _ _ _ _ _ (turn .loop-test .taken) (rw (c .enum-told .given .1, few) at (read .bundle-after .ensures))
+    ∙ kept-missed _ _ _ _ _ _ _ _ (turn .loop-test .taken) (bundle-missed _ _ _ (rw few at (read .bundle-after .ensures)) (c .enum-told .given .1))
 
 mul-sets : tie.Need-mul-sets Inv-loop μ-loop
 mul-sets c = omega arith
@@ -70,7 +71,7 @@ loop-again c =
       omega arith,
       simp length-set (turn .before .loop .inv .1),
       turn .before .loop .inv .2
-          ∙ kept-read _ _ _ _ _ _ _ _ _ _ (turn .loop-test .taken) (rw (c .before .set .given .1, few) at (read .bundle-after .ensures)),
+          ∙ kept-read _ _ _ _ _ _ _ _ _ _ (turn .loop-test .taken) (bundleAfter-read _ _ _ _ (rw few at (read .bundle-after .ensures)) (c .before .set .given .1) .read),
     )
 
 returns-2 : tie.Need-returns-2 Inv-loop μ-loop

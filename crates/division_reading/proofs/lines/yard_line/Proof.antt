@@ -7,11 +7,15 @@ use Prim.Native.Nat.{ℕ}
 use denote.Ref.{now}
 use borrow.Author.Needs.{needs}
 use borrow.Author.Tests.{not-true, not-false}
+use Rattle.sheet.specs.Sets.{setOf}
 use Rattle.tokeniser.specs.Places.{tokensAt}
+use Rattle.lexing.proofs.readers.Places.{followed-missed, follow-read}
+use Rattle.bundle_reading.proofs.Places.{mapRead-leaves, bundle-to, bundle-missed as none-kept}
+use Rattle.division_numbers.proofs.Places.{amounts-read as amounts-to, amounts-missed as none-stated}
 use Rattle.division_reading.specs.Grammar.{bundleInTurn, amounts, cutBundles}
 use Rattle.bundle_reading.specs.Kept.{keptBundle}
 use Rattle.division_reading.specs.internal.Kept.{keptCut}
-use Rattle.division_reading.proofs.kept.YardLine.{bundle-missed, amounts-missed, cut-missed, end-missed, line-read}
+use Rattle.division_reading.proofs.kept.YardLine.{bundleInTurn-leaves, bundle-missed, amounts-missed, cut-missed, end-missed, line-read}
 use Rattle.division_reading.proofs.lines.yard_line.Statement.{statement}
 use Rattle.division_reading.proofs.lines.yard_line.Tie as tie
 
@@ -28,11 +32,11 @@ textOf c = now (c .before .before .before .before .args .s)
 
 bundle-read : (c : tie.After-bundle) → let a = c .before .before .before .before .args in
     keptBundle (bundleInTurn (a .items) (a .turn) (tokensAt (textOf c) (a .c))) ≡ some (c .bundle .given .0 .0, tokensAt (textOf c) (c .bundle .given .0 .1 .0))
-bundle-read c = rw (c .bundle .given .1) at (c .before .before .bundle-in-turn .ensures)
+bundle-read c = bundle-to _ _ _ (mapRead-leaves setOf _ _ (bundleInTurn-leaves _ _ _)) (c .before .before .bundle-in-turn .ensures) (c .bundle .given .1) .read
 
 amounts-read : (c : tie.After-worth) → let b = bundle-point c in
     amounts (tokensAt (textOf b) (b .bundle .given .0 .1 .0)) ≡ some (c .worth .given .0 .0, c .worth .given .0 .1 .0, tokensAt (textOf b) (c .worth .given .0 .1 .1 .0))
-amounts-read c = rw (c .worth .given .1) at (c .before .before .read-amounts .ensures)
+amounts-read c = amounts-to _ _ (c .before .before .read-amounts .ensures) (c .worth .given .1) .read
 
 all-bundles : (c : tie.Else1) → c .before .before .read-cut .result .read ≡ true
 all-bundles c = not-false (c .before .before .read-cut .result .read) (c .if1 .left)
@@ -58,7 +62,7 @@ unread-requires c κs = search needs
 
 returns : tie.Need-returns
 returns c =
-    rw (c .unread .ensures) (bundle-missed _ _ _ _ (rw (c .before .enum-told .given .1) at (c .before .before .before .bundle-in-turn .ensures)))
+    rw (c .unread .ensures) (bundle-missed _ _ _ _ (none-kept _ _ _ (c .before .before .before .bundle-in-turn .ensures) (c .before .enum-told .given .1)))
 
 read-amounts-requires : tie.Need-read-amounts-requires
 read-amounts-requires c κs = search needs
@@ -75,7 +79,7 @@ unread-requires-2 c κs = search needs
 returns-2 : tie.Need-returns-2
 returns-2 c =
     let b = c .before .before .before .before .before in
-    let missed = rw (c .before .enum-told2 .given .1) at (c .before .before .before .read-amounts .ensures) in
+    let missed = none-stated _ _ _ (c .before .before .before .read-amounts .ensures) (c .before .enum-told2 .given .1) in
     rw (c .unread2 .ensures) (amounts-missed _ _ _ _ _ _ (bundle-read b) missed)
 
 read-cut-requires : tie.Need-read-cut-requires
@@ -110,7 +114,7 @@ returns-4 : tie.Need-returns-4
 returns-4 c =
     let e = c .before .before .before .before .before .before in
     let m = amounts-point e in
-    let missed = rw (c .before .enum-told3 .given .1) at (c .before .before .before .follow .ensures) in
+    let missed = followed-missed _ _ _ (c .before .before .before .follow .ensures) (c .before .enum-told3 .given .1) in
     rw (c .unread4 .ensures) (end-missed _ _ _ _ _ _ (bundle-read (bundle-point m)) _ _ _ (amounts-read m) _ _ (cut-read e) missed)
 
 returns-5 : tie.Need-returns-5
@@ -119,8 +123,8 @@ returns-5 c =
     let e = f .before .before .before in
     let m = amounts-point e in
     let few = bundle-point m .before .before .before .before .pre .0 in
-    let l = rw (c .before .before .c4 .given .1) at (f .follow .ensures) in
-    line-read _ _ _ _ _ _ (bundle-read (bundle-point m)) _ _ _ (amounts-read m) _ _ (cut-read e) _ few (l .1)
+    let l = follow-read _ _ _ (f .follow .ensures) (c .before .before .c4 .given .1) in
+    line-read _ _ _ _ _ _ (bundle-read (bundle-point m)) _ _ _ (amounts-read m) _ _ (cut-read e) _ few (l .read)
 
 pub yard-line-spec : {M : Type 1} → statement M
 yard-line-spec =

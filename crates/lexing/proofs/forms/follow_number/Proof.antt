@@ -1,6 +1,11 @@
 -- `forms::follow_number` meets its contract: the number read is the one due, or another, or none. Assumes nothing.
+use mathlib.Core.Path.{ap}
 use borrow.Author.Needs.{needs}
 use borrow.Author.Tests.{eq-eqb, ne-eqb}
+use Rattle.tokeniser.proofs.Behind.{reached-place}
+use Rattle.lexing.specs.Results.{followedFrom}
+use Rattle.lexing.specs.declared.forms.Followed.the-variants.{At}
+use Rattle.lexing.proofs.readers.Places.{number-missed, numberAfter-read}
 use Rattle.lexing.proofs.forms.follow_number.Statement.{statement}
 use Rattle.lexing.proofs.forms.follow_number.Tie as tie
 
@@ -14,17 +19,20 @@ enum-told : tie.Need-enum-told
 enum-told c = search needs
 
 returns : tie.Need-returns
-returns c = rw (rw (c .enum-told .given .1) at (c .before .before .number-after .ensures))
+unfolding followedFrom
+returns c = rw (number-missed _ _ _ (c .before .before .number-after .ensures) (c .enum-told .given .1))
 
 returns-2 : tie.Need-returns-2
+unfolding followedFrom
 returns-2 c =
-    let h = rw (c .before .before .k .given .1) at (c .before .before .before .before .number-after .ensures) in
-    (h .0, rw (h .1, eq-eqb _ _ (c .if1 .taken)))
+    let h = numberAfter-read _ _ _ _ (c .before .before .before .before .number-after .ensures) (c .before .before .k .given .1) in
+    rw (h .read, eq-eqb _ _ (c .if1 .taken)) (ap At (reached-place (h .reached)))
 
 returns-3 : tie.Need-returns-3
+unfolding followedFrom
 returns-3 c =
-    let h = rw (c .before .before .k .given .1) at (c .before .before .before .before .number-after .ensures) in
-    rw (h .1, ne-eqb _ _ (c .if1 .left))
+    let h = numberAfter-read _ _ _ _ (c .before .before .before .before .number-after .ensures) (c .before .before .k .given .1) in
+    rw (h .read, ne-eqb _ _ (c .if1 .left))
 
 pub follow-number-spec : {M : Type 1} → statement M
 follow-number-spec =

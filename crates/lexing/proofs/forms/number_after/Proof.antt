@@ -1,5 +1,9 @@
 -- `forms::number_after` meets its contract: the form is followed and a number is read, or one of them is missed. Assumes nothing.
+use mathlib.Core.Path.{_∙_}
 use Rattle.lexing.specs.Numbers.{numberAfter}
+use Rattle.lexing.specs.Results.{numberFrom}
+use Rattle.lexing.proofs.readers.Suffixes.{number-leaves}
+use Rattle.lexing.proofs.readers.Places.{followed-missed, follow-read, number-then}
 use borrow.Author.Needs.{needs}
 use Rattle.lexing.proofs.forms.number_after.Statement.{statement}
 use Rattle.lexing.proofs.forms.number_after.Tie as tie
@@ -14,8 +18,8 @@ enum-told : tie.Need-enum-told
 enum-told c = search needs
 
 returns : tie.Need-returns
-unfolding numberAfter
-returns c = rw (rw (c .enum-told .given .1) at (c .before .before .follow .ensures))
+unfolding numberAfter numberFrom
+returns c = rw (followed-missed _ _ _ (c .before .before .follow .ensures) (c .enum-told .given .1))
 
 read-number-requires : tie.Need-read-number-requires
 read-number-requires c κs = search needs
@@ -23,8 +27,8 @@ read-number-requires c κs = search needs
 returns-2 : tie.Need-returns-2
 unfolding numberAfter
 returns-2 c =
-    let h = rw (c .before .before .next .given .1) at (c .before .before .before .before .follow .ensures) in
-    rw (h .1) (c .read-number .ensures)
+    let h = follow-read _ _ _ (c .before .before .before .before .follow .ensures) (c .before .before .next .given .1) in
+    rw (h .read) (c .read-number .ensures ∙ number-then _ (h .reached) (number-leaves _ _))
 
 pub number-after-spec : {M : Type 1} → statement M
 number-after-spec =

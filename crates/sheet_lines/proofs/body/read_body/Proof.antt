@@ -19,7 +19,7 @@ returns c =
     let at-items = c .before in
     let bounds = yard-lines-requires at-items (at-items .before .before .before .κs) in
     rw (← at-items .before .lesser .ensures, ← at-items .lesser2 .ensures)
-    (yard-lines-give _ _ _ _ (bounds .0) (bounds .1) _ (c .yard-lines .ensures))
+    (yard-lines-give _ _ _ _ _ (bounds .0) (bounds .1) _ (c .yard-lines .ensures))
 
 pub read-body-spec : {M : Type 1} → statement M
 read-body-spec = tie.close (tie.spec lesser-requires lesser-requires-2 yard-lines-requires returns)

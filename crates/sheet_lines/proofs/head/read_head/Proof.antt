@@ -1,13 +1,16 @@
 -- `head::read_head` meets its contract: its parts are read one after another, or one of them is missed. Assumes nothing.
+use mathlib.Core.Path.{ap}
 use denote.Ref.{now}
 use Rattle.sheet.specs.Limits.{countDigits}
 use Rattle.lexing.specs.Forms.{form}
 use Rattle.lexing.specs.Numbers.{numberAfter}
 use Rattle.tokeniser.specs.Places.{tokensAt}
-use Rattle.lexing.specs.Results.{ReadsNumber}
-use Rattle.lexing.specs.declared.forms.Number.the-variants.{Value}
+use Rattle.tokeniser.proofs.Behind.{reached-then, reached-place}
+use Rattle.lexing.proofs.readers.Places.{ReadTo, number-missed, followed-missed, numberAfter-read, follow-read}
 use Rattle.sheet_lines.specs.SheetForms.{beforeAgents, beforeItems}
 use Rattle.sheet_lines.specs.Grammar.{head}
+use Rattle.sheet_lines.specs.Results.{headFrom}
+use Rattle.sheet_lines.specs.declared.head.Head.the-variants.{Counts}
 use borrow.Author.Needs.{needs}
 use Rattle.sheet_lines.proofs.head.read_head.Statement.{statement}
 use Rattle.sheet_lines.proofs.head.read_head.Tie as tie
@@ -18,13 +21,13 @@ agents-point c = c .before .before .before .before .before
 
 -- what the two numbers say, where they have been read
 agents-read : (c : tie.After-agents) → let a = c .before .before .before .before .before .args in
-    ReadsNumber (now (a .s)) (Value (c .agents .given .0 .0) (c .agents .given .0 .1 .0)) (numberAfter (form beforeAgents) countDigits (tokensAt (now (a .s)) (a .c)))
-agents-read c = rw (c .agents .given .1) at (c .before .before .number-after .ensures)
+    ReadTo (now (a .s)) (a .c) (numberAfter (form beforeAgents) countDigits (tokensAt (now (a .s)) (a .c))) (λ ts. (c .agents .given .0 .0, ts)) (c .agents .given .0 .1 .0)
+agents-read c = numberAfter-read _ _ _ _ (c .before .before .number-after .ensures) (c .agents .given .1)
 
 items-read : (c : tie.After-items) → let h = agents-point c in
     let s = now (h .before .before .before .before .before .args .s) in
-    ReadsNumber s (Value (c .items .given .0 .0) (c .items .given .0 .1 .0)) (numberAfter (form beforeItems) countDigits (tokensAt s (h .agents .given .0 .1 .0)))
-items-read c = rw (c .items .given .1) at (c .before .before .number-after2 .ensures)
+    ReadTo s (h .agents .given .0 .1 .0) (numberAfter (form beforeItems) countDigits (tokensAt s (h .agents .given .0 .1 .0))) (λ ts. (c .items .given .0 .0, ts)) (c .items .given .0 .1 .0)
+items-read c = numberAfter-read _ _ _ _ (c .before .before .number-after2 .ensures) (c .items .given .1)
 
 slice-aggregate-number-after : tie.Need-slice-aggregate-number-after
 slice-aggregate-number-after c = search needs
@@ -39,8 +42,8 @@ enum-told : tie.Need-enum-told
 enum-told c = search needs
 
 returns : tie.Need-returns
-unfolding head
-returns c = rw (rw (c .enum-told .given .1) at (c .before .before .number-after .ensures))
+unfolding head headFrom
+returns c = rw (number-missed _ _ _ (c .before .before .number-after .ensures) (c .enum-told .given .1))
 
 slice-aggregate-number-after-2 : tie.Need-slice-aggregate-number-after-2
 slice-aggregate-number-after-2 c = search needs
@@ -55,9 +58,9 @@ enum-told-2 : tie.Need-enum-told-2
 enum-told-2 c = search needs
 
 returns-2 : tie.Need-returns-2
-unfolding head
+unfolding head headFrom
 returns-2 c =
-    rw (agents-read (c .before .before .before .before .before) .1, rw (c .enum-told2 .given .1) at (c .before .before .number-after2 .ensures))
+    rw (agents-read (c .before .before .before .before .before) .read, number-missed _ _ _ (c .before .before .number-after2 .ensures) (c .enum-told2 .given .1))
 
 slice-aggregate-follow : tie.Need-slice-aggregate-follow
 slice-aggregate-follow c = search needs
@@ -72,17 +75,19 @@ enum-told-3 : tie.Need-enum-told-3
 enum-told-3 c = search needs
 
 returns-3 : tie.Need-returns-3
-unfolding head
+unfolding head headFrom
 returns-3 c =
     let i = c .before .before .before .before .before in
-    rw (agents-read (agents-point i) .1, items-read i .1, rw (c .enum-told3 .given .1) at (c .before .before .follow .ensures))
+    rw (agents-read (agents-point i) .read, items-read i .read, followed-missed _ _ _ (c .before .before .follow .ensures) (c .enum-told3 .given .1))
 
 returns-4 : tie.Need-returns-4
-unfolding head
+unfolding head headFrom
 returns-4 c =
-    let l = rw (c .before .c3 .given .1) at (c .before .before .before .follow .ensures) in
+    let l = follow-read _ _ _ (c .before .before .before .follow .ensures) (c .before .c3 .given .1) in
     let i = c .before .before .before .before .before .before in
-    rw (agents-read (agents-point i) .1, items-read i .1, l .1)
+    let a = agents-point i in
+    rw (agents-read a .read, items-read i .read, l .read)
+    (ap (Counts (a .agents .given .0 .0) (i .items .given .0 .0)) (reached-place (reached-then (agents-read a .reached) (reached-then (items-read i .reached) (l .reached)))))
 
 pub read-head-spec : {M : Type 1} → statement M
 read-head-spec =

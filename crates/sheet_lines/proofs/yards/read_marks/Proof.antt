@@ -1,5 +1,6 @@
 -- `yards::read_marks` meets its contract. The loop's invariant: the marks still due, kept after those in the row, are what is to be read. Assumes nothing.
-use mathlib.Core.Path.{_≡_, refl, _∙_}
+use mathlib.Core.Path.{_≡_, refl, ap, _∙_}
+use mathlib.Core.Bool.{true}
 use Prim.Native.Nat.{_≤_, _+_, _-_}
 use native.Mathlib.Nat.{sub-zero}
 use native.Mathlib.Omega.{arith}
@@ -9,15 +10,19 @@ use Rattle.sheet.specs.Limits.{mostItems, markDigits}
 use Rattle.lexing.specs.Forms.{inTurn}
 use Rattle.lexing.specs.Numbers.{number}
 use Rattle.tokeniser.specs.Places.{tokensAt}
+use Rattle.tokeniser.proofs.Behind.{Reached, reached-here, reached-then, reached-place}
+use Rattle.lexing.proofs.readers.Places.{number-missed, number-at-read}
 use Rattle.sheet_lines.specs.Grammar.{marks}
 use Rattle.sheet_lines.specs.internal.Kept.{keptMarksAfter}
+use Rattle.sheet_lines.specs.internal.Results.{lineFrom}
+use Rattle.sheet_lines.specs.declared.yards.Line.{Line}
 use Rattle.sheet_lines.proofs.kept.InTurn.{kept-read, kept-missed, kept-all}
 use Rattle.sheet_lines.proofs.yards.read_marks.Statement.{statement}
 use Rattle.sheet_lines.proofs.yards.read_marks.Tie as tie
 
 abbrev Inv-loop : tie.InvT-loop
 Inv-loop s items row₀ allowed₀ here₀ k₀ row allowed here k =
-    (k ≤ items) × (length row ≡ mostItems)
+    (k ≤ items) × (length row ≡ mostItems) × Reached s here₀ here
     × (keptMarksAfter 0 row₀ allowed₀ (marks markDigits items (tokensAt s here₀))
     ≡ keptMarksAfter k row allowed (inTurn (λ piece. number markDigits) (k + 1) (items - k) (tokensAt s here)))
 
@@ -25,7 +30,7 @@ abbrev μ-loop : tie.MeasureT-loop
 μ-loop s items row₀ allowed₀ here₀ k₀ row allowed here k = items - k
 
 loop-holds : tie.Need-loop-holds Inv-loop μ-loop
-loop-holds c = (omega arith, refl, rw sub-zero)
+loop-holds c = (omega arith, refl, reached-here, rw sub-zero)
 
 read-number-requires : tie.Need-read-number-requires Inv-loop μ-loop
 read-number-requires c κs = tt
@@ -40,11 +45,11 @@ unread-requires : tie.Need-unread-requires Inv-loop μ-loop
 unread-requires c κs = tt
 
 returns : tie.Need-returns Inv-loop μ-loop
+unfolding lineFrom
 returns c =
     let number-read = c .before .before .before in
-    rw (c .unread .ensures)
-    (number-read .before .before .loop .inv .2
-    ∙ kept-missed _ _ _ _ _ _ _ _ _ _ (number-read .before .loop-test .taken) (rw (c .before .enum-told .given .1) at (number-read .read-number .ensures)))
+    let missed = number-missed _ _ _ (number-read .read-number .ensures) (c .before .enum-told .given .1) in
+    rw (number-read .before .before .loop .inv .3 ∙ kept-missed _ _ _ _ _ _ _ _ _ _ (number-read .before .loop-test .taken) missed) (c .unread .ensures)
 
 cast-row : tie.Need-cast-row Inv-loop μ-loop
 cast-row c = search needs
@@ -68,14 +73,19 @@ loop-again : tie.Need-loop-again Inv-loop μ-loop
 loop-again c =
     let number-read = c .before .before .before .before in
     let loop = number-read .before .before in
-    let h = rw (c .before .before .m .given .1) at (number-read .read-number .ensures) in (
+    let h = number-at-read _ _ _ (number-read .read-number .ensures) (c .before .before .m .given .1) in (
       omega arith,
       simp length-set (loop .loop .inv .1),
-      rw (c .both .ensures) (loop .loop .inv .2 ∙ kept-read _ _ _ _ _ _ _ _ _ _ _ _ (number-read .before .loop-test .taken) (h .1)),
+      reached-then (loop .loop .inv .2) (h .reached),
+      rw (c .both .ensures) (loop .loop .inv .3 ∙ kept-read _ _ _ _ _ _ _ _ _ _ _ _ (number-read .before .loop-test .taken) (h .read)),
     )
 
 returns-2 : tie.Need-returns-2 Inv-loop μ-loop
-returns-2 c = c .before .loop .inv .2 ∙ kept-all _ _ _ _ _ _ _ _ _ _ (c .loop-test .left)
+unfolding lineFrom
+returns-2 c =
+    let loop = c .before .loop in
+    rw (loop .inv .3 ∙ kept-all _ _ _ _ _ _ _ _ _ _ (c .loop-test .left))
+    (ap {B = Line} (λ next. record { read = true; allowed = loop .allowed; row = loop .row; next = next }) (reached-place (loop .inv .2)))
 
 pub read-marks-spec : {M : Type 1} → statement M
 read-marks-spec =

@@ -1,6 +1,7 @@
--- `scan::token_end` meets its contract: the laws of a token that is a delimiter, and of one that is a word. Assumes nothing.
+-- `scan::token_end` meets its contract: a delimiter is a token by itself, and a word goes on to its end. Assumes nothing.
 use mathlib.Core.Path.{sym, _∙_}
-use Rattle.tokeniser.proofs.TokenTo.{delimiter-to, word-to}
+use native.Mathlib.Omega.{arith}
+use Rattle.lists.proofs.places.Passing.{drop-next}
 use borrow.Author.Needs.{needs}
 use Rattle.tokeniser.proofs.scan.token_end.Statement.{statement}
 use Rattle.tokeniser.proofs.scan.token_end.Tie as tie
@@ -22,11 +23,13 @@ word-end-requires c κs = search needs
 
 returns : tie.Need-returns
 returns c =
-    delimiter-to (c .before .before .before .before .pre .0) (c .before .before .before .before .pre .1) (sym (c .before .is-delimiter .ensures) ∙ c .if1 .taken)
+    let start = c .before .before .before .before in
+    rw (drop-next _ _ (start .pre), sym (c .before .is-delimiter .ensures) ∙ c .if1 .taken)
 
 returns-2 : tie.Need-returns-2
 returns-2 c =
-    word-to (c .before .before .before .before .before .pre .0) (c .before .before .before .before .before .pre .1) (sym (c .before .before .is-delimiter .ensures) ∙ c .before .if1 .left) (c .word-end .ensures)
+    let start = c .before .before .before .before .before in
+    rw (drop-next _ _ (start .pre), sym (c .before .before .is-delimiter .ensures) ∙ c .before .if1 .left) (omega (arith, c .word-end .ensures))
 
 pub token-end-spec : {M : Type 1} → statement M
 token-end-spec =
