@@ -20,7 +20,7 @@ use Rattle.shares.proofs.Profile.{nth-shares, nth-cuts}
 use Rattle.grades.specs.Scale.{marginsByTable, gradeByTable}
 use Rattle.bundling.specs.Bundles.{allBundles}
 use Rattle.rounds.specs.Division.{Division, divisionOf, divisionByRounds, answer}
-use Rattle.bundling.proofs.Allocating.{allBundles-allocate}
+use Rattle.bundling.proofs.Allocating.{allBundles-sublist, allBundles-allocate}
 use Rattle.rounds.proofs.Answers.{answer-accepted}
 use Rattle.rounds.proofs.Graded.{division-allocates}
 use Rattle.printing.proofs.printed.Printable.{divisionByRounds-printable}
