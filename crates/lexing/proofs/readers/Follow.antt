@@ -6,7 +6,7 @@ use mathlib.Core.Bool.{true, false, cond, true≢false, false≢true, and-eq-tru
 use Prim.Native.Nat.{ℕ}
 use Rattle.lists.specs.Lists.{all}
 use Rattle.tokens.specs.Tokens.{Token}
-use Rattle.tokens.proofs.texts.HaveBytes.{hasByte}
+use Rattle.tokens.specs.Tokenised.{hasByte}
 use Rattle.lexing.specs.Forms.{first, rest, ended, same, follow}
 use Rattle.tokeniser.specs.Places.{tokensAt}
 use Rattle.tokeniser.specs.NextToken.{bytesOf}

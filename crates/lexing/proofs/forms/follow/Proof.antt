@@ -9,7 +9,8 @@ use borrow.Author.Tests.{not-true, not-false}
 use lib.ListN.{length}
 use Rattle.lists.specs.Lists.{all}
 use Rattle.tokens.specs.Tokens.{tokens}
-use Rattle.tokens.proofs.texts.HaveBytes.{hasByte, tokens-have-bytes}
+use Rattle.tokens.specs.Tokenised.{hasByte}
+use Rattle.tokens.proofs.texts.TextTokens.{tokens-have-bytes}
 use Rattle.lexing.specs.Forms.{ended, follow}
 use Rattle.tokeniser.specs.Places.{tokensAt}
 use Rattle.tokeniser.proofs.Places.{tokens-start}
