@@ -1,16 +1,19 @@
 // The rounds one after the other: each hands out bundles, and the agents that wait divide what is left by the same steps.
 ghost use mathlib.Core.Path.{_≡_};
+ghost use mathlib.Core.List.{List·Memᴰ as Mem};
 ghost use Prim.Native.Nat.{_≤_, _<_};
 ghost use Rattle.lists.specs.Lists.{Within};
 ghost use Rattle.sheet.specs.Limits.{mostAgents};
 ghost use Rattle.sheet.specs.Sets.{itemsOf};
 ghost use Rattle.cut.specs.Outcome.{placed};
 ghost use Rattle.margins.specs.Terms.{termsFor};
+ghost use Rattle.matching.specs.Matching.{cutterOf};
 ghost use Rattle.serving.specs.Serving.{agentsIn};
 ghost use Rattle.division.specs.internal.Allocation.{nothing, stored, withRound, allottedAll};
-ghost use Rattle.division.specs.internal.Left.{instanceFrom, cutByLowest, Cuttable, EnoughFor, Ready};
+ghost use Rattle.division.specs.internal.Left.{instanceFrom, cutLeft, Cuttable, EnoughFor, Ready};
 use cut::Partition;
 use cut::cut;
+use serving::cutter_of;
 use settling::settle_round;
 use sheet::Sets;
 use sheet::Sheet;
@@ -68,47 +71,56 @@ fn hand_out(allocation: Allocation, cutter: u8, served: &[u8], sets: Sets) -> Al
     }
 }
 
-// The partition of the items left into as many bundles as there are agents left, by the lowest-numbered of them, with an allowance that
-// does not stop the cut.
-fn cut_by_lowest(table: Table, left: u16, set: u16, allowance: u32) -> Partition
-    requires { ⌜ Cuttable left set × EnoughFor allowance left set ⌝ }
-    ensures { λ r. ⌜ r ≡ placed (cutByLowest table (agentsIn left) (itemsOf set)) ⌝ }
+// The cutter's partition of the items left into as many bundles as there are agents left, with an allowance that does not stop the cut.
+fn cut_left(table: Table, cutter: u8, left: u16, set: u16, allowance: u32) -> Partition
+    requires { ⌜ Mem cutter (agentsIn left) × Cuttable left set × EnoughFor allowance left set ⌝ }
+    ensures { λ r. ⌜ r ≡ placed (cutLeft table cutter (agentsIn left) (itemsOf set)) ⌝ }
 {
     let agents = items_of(left);
-    let numbers = agents.numbers;
-    let cutter = numbers[0] as usize;
-    let valuation = table[cutter - 1];
+    let valuation = table[cutter as usize - 1];
     let cutting = cut(valuation, set, agents.count, allowance);
     let partition = cutting.partition;
     partition
 }
 
 // The allocation once the agents left have divided the items left: one round, and the agents that wait divide what it leaves, with the same
-// allowance, in a division among so many agents. `partition` is the cutter's cut of the items left.
+// allowance, in a division among so many agents. `cutter` cuts this round, and `partition` is its cut of the items left.
 pub(crate) fn divide_left(
     table: Table,
     shares: Amounts,
     agents: usize,
     allowance: u32,
+    cutter: u8,
     left: u16,
     set: u16,
     partition: Partition,
     allocation: Allocation,
 ) -> Allocation
-    requires { ⌜ Ready agents shares allowance left set allocation × (partition ≡ placed (cutByLowest table (agentsIn left) (itemsOf set))) ⌝ }
+    requires { ⌜ Ready agents shares allowance left set allocation × (cutter ≡ cutterOf (agentsIn left)) × (partition ≡ placed (cutLeft table cutter (agentsIn left) (itemsOf set))) ⌝ }
     ensures { λ r. ⌜ r ≡ allottedAll (instanceFrom (termsFor agents) table shares) (agentsIn left) (itemsOf set) allocation ⌝ }
 {
-    let round = settle_round(table, shares, agents, left, set, partition);
+    let round = settle_round(table, shares, agents, cutter, left, set, partition);
     let served = round.served;
     let numbers = served.numbers;
     let count = served.count;
     let sets = round.sets;
-    let given = hand_out(allocation, round.cutter, &numbers[..count], sets);
+    let given = hand_out(allocation, cutter, &numbers[..count], sets);
     let waiting = round.waiting;
     if waiting == 0 {
         return given;
     }
     let rest = round.left;
-    let next = cut_by_lowest(table, waiting, rest, allowance);
-    divide_left(table, shares, agents, allowance, waiting, rest, next, given)
+    let next_cutter = cutter_of(waiting);
+    let next = cut_left(table, next_cutter, waiting, rest, allowance);
+    divide_left(
+        table,
+        shares,
+        agents,
+        allowance,
+        next_cutter,
+        waiting,
+        rest,
+        next,
+        given,
+    )
 }

@@ -10,6 +10,7 @@ use crate::dividing::nothing_handed_out;
 use grading::grade_of;
 use grading::worths_of;
 use margins::margins_of;
+use serving::cutter_of;
 use shares::Cut;
 use shares::share_each_within;
 use sheet::Sets;
@@ -65,15 +66,18 @@ fn divide_shared(
 {
     let shares = own.shares;
     let cuts = own.cuts;
-    let first = cuts[0];
-    let partition = first.partition;
+    let all = all_items(agents);
+    let cutter = cutter_of(all);
+    let own_cut = cuts[cutter as usize - 1];
+    let partition = own_cut.partition;
     let nothing = nothing_handed_out();
     let allocation = divide_left(
         table,
         shares,
         agents,
         allowance,
-        all_items(agents),
+        cutter,
+        all,
         all_items(items),
         partition,
         nothing,

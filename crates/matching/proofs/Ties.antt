@@ -13,7 +13,7 @@ use Rattle.lists.proofs.dictionary.First.{firstBest-reaches}
 use Rattle.lists.proofs.dictionary.Listed.{in-listsOver}
 use Rattle.lists.proofs.dictionary.Dictionary.{precedes-refl, range-rising, listsOver-in-order, firstThat-first, pairwise-sublist, InOrder, sublists-in-order}
 use Rattle.lists.proofs.members.Counting.{filter-sublist, reject-sublist}
-use Rattle.matching.specs.Matching.{without, wanted, neighbours, tight, waitingSet, matches, Matched, matching, cutterOf, bundleNumbers, waitingOf, servedOf, freeOf, chosenOf}
+use Rattle.matching.specs.Matching.{without, wanted, neighbours, tight, waitingSet, matches, Matched, matching, bundleNumbers, waitingOf, servedOf, freeOf, chosenOf}
 use Rattle.matching.proofs.Waiting.{mem-tight}
 use Rattle.matching.proofs.Matching.{suited-length}
 
@@ -42,14 +42,14 @@ module _ (suits : ℕ → ℕ → Bool) where
       (rw same at (in-listsOver bundles chosen (s .from-bundles))) (rw (s .suits-each, s .injective))
 
 -- a round of agents left in rising order
-module _ (suits : ℕ → ℕ → Bool) (agents : List ℕ) where
-  pub waitingOf-first : Rising agents → (zs : List ℕ) → Sublist zs (without (cutterOf agents) agents) → neighbours suits zs (bundleNumbers agents) ≤ length zs
-      → length (waitingOf suits agents) ≡ length zs → Precedes (waitingOf suits agents) zs
+module _ (suits : ℕ → ℕ → Bool) (cutter : ℕ) (agents : List ℕ) where
+  pub waitingOf-first : Rising agents → (zs : List ℕ) → Sublist zs (without cutter agents) → neighbours suits zs (bundleNumbers agents) ≤ length zs
+      → length (waitingOf suits cutter agents) ≡ length zs → Precedes (waitingOf suits cutter agents) zs
   waitingOf-first rising =
-      waitingSet-precedes suits (without (cutterOf agents) agents) (bundleNumbers agents)
-      (pairwise-sublist (λ x y. x < y) (reject-sublist (eqb (cutterOf agents)) agents) rising)
+      waitingSet-precedes suits (without cutter agents) (bundleNumbers agents)
+      (pairwise-sublist (λ x y. x < y) (reject-sublist (eqb cutter) agents) rising)
 
-  pub chosenOf-first : (chosen : List ℕ) → Matched suits (servedOf suits agents) (freeOf suits agents) chosen → Precedes (chosenOf suits agents) chosen
+  pub chosenOf-first : (chosen : List ℕ) → Matched suits (servedOf suits cutter agents) (freeOf suits cutter agents) chosen → Precedes (chosenOf suits cutter agents) chosen
   chosenOf-first chosen =
-      matching-precedes suits (servedOf suits agents) (freeOf suits agents) chosen
-      (pairwise-sublist (λ x y. x < y) (reject-sublist (wanted suits (waitingOf suits agents)) (bundleNumbers agents)) (range-rising 1 (length agents)))
+      matching-precedes suits (servedOf suits cutter agents) (freeOf suits cutter agents) chosen
+      (pairwise-sublist (λ x y. x < y) (reject-sublist (wanted suits (waitingOf suits cutter agents)) (bundleNumbers agents)) (range-rising 1 (length agents)))

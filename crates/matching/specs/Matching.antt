@@ -68,11 +68,11 @@ cutterOf (agent ∷ agents) = agent
 abbrev pub bundleNumbers : List ℕ → List ℕ
 bundleNumbers agents = range 1 (length agents)
 
--- one round of the agents left, who stand in rising order, in its parts
-module _ (suits : ℕ → ℕ → Bool) (agents : List ℕ) where
+-- one round of the agents left, who stand in rising order, with the one of them who cuts, in its parts
+module _ (suits : ℕ → ℕ → Bool) (cutter : ℕ) (agents : List ℕ) where
   -- "The waiting set is the largest set of yards left, without the cutter, .."
   abbrev pub waitingOf : List ℕ
-  waitingOf = waitingSet suits (without (cutterOf agents) agents) (bundleNumbers agents)
+  waitingOf = waitingSet suits (without cutter agents) (bundleNumbers agents)
 
   -- "The other yards, the cutter among them, are served"
   abbrev pub servedOf : List ℕ

@@ -16,14 +16,14 @@ use Rattle.maximin.specs.Share.{maximinShare, maximinPartition}
 use Rattle.maximin.proofs.Laws.{leastBundle-le-maximinShare, maximinPartition-within, leastBundle-maximinPartition, maximinPartition-precedes}
 use Rattle.matching.specs.Matching.{cutterOf, chosenOf}
 use Rattle.matching.proofs.Cutter.{cutterOf-mem, cutterOf-lowest}
-use Rattle.matching.proofs.Serving.{waitingOf-largest, cutterOf-served}
+use Rattle.matching.proofs.Serving.{waitingOf-largest, cutter-served}
 use Rattle.matching.proofs.Ties.{waitingOf-first, chosenOf-first}
 use Rattle.margins.specs.declared.Terms.{Terms}
-use Rattle.rounds.specs.Round.{Instance, cutOf, Round, round, rounds}
+use Rattle.rounds.specs.Round.{Instance, Round, round, rounds}
 use Rattle.rounds.specs.Documented.{ShareAndCut, RoundAsDocumented, FollowOn}
 use Rattle.rounds.specs.Division.{instanceOf, allRounds}
 use Rattle.rounds.proofs.density.Terms.{Allowed}
-use Rattle.rounds.proofs.round.Parts.{cutSuits, round-begins, waiting-falls}
+use Rattle.rounds.proofs.round.Parts.{cutterCut, cutSuits, round-begins, waiting-falls}
 use Rattle.rounds.proofs.round.Invariant.{Sound, Left, left-all, matched}
 use Rattle.rounds.proofs.round.Rounds.{rounds-each}
 use Rattle.rounds.proofs.Allocation.{sound}
@@ -42,9 +42,12 @@ module _ {N M : ℕ} {G : Instance} {agents items : List ℕ} (sound : Sound N M
   abbrev n : ℕ
   n = length agents
 
+  abbrev cutter : ℕ
+  cutter = cutterOf agents
+
   -- the cutter's values of the items left
   abbrev values : List ℕ
-  values = map (itemValue (valuation (G .valuations) (cutterOf agents))) items
+  values = map (itemValue (valuation (G .valuations) cutter)) items
 
   rising : Rising agents
   rising = pairwise-sublist (λ x y. x < y) (state .of-agents) (range-rising 1 N)
@@ -58,16 +61,16 @@ module _ {N M : ℕ} {G : Instance} {agents items : List ℕ} (sound : Sound N M
         cutter-left = cutterOf-mem agents some;
         cutter-lowest = cutterOf-lowest agents rising;
         share-of-left = maximinShare n values;
-        cut = cutOf G agents items;
+        cut = cutterCut G agents items;
         cut-of-left = share-and-cut-as-documented n values some;
-        waiting-tight = (waitingOf-largest suiting agents .sublist, waitingOf-largest suiting agents .bound);
-        waiting-largest = λ set t. waitingOf-largest suiting agents .largest set (t .0) (t .1);
-        waiting-first = λ set t. waitingOf-first suiting agents rising set (t .0) (t .1);
+        waiting-tight = (waitingOf-largest suiting cutter agents .sublist, waitingOf-largest suiting cutter agents .bound);
+        waiting-largest = λ set t. waitingOf-largest suiting cutter agents .largest set (t .0) (t .1);
+        waiting-first = λ set t. waitingOf-first suiting cutter agents rising set (t .0) (t .1);
         served-others = refl;
-        cutter-served = cutterOf-served suiting agents some;
-        chosen = chosenOf suiting agents;
+        cutter-served = cutter-served suiting cutter agents (cutterOf-mem agents some);
+        chosen = chosenOf suiting cutter agents;
         chosen-serves = matched sound some state;
-        chosen-first = chosenOf-first suiting agents;
+        chosen-first = chosenOf-first suiting cutter agents;
         bundles-chosen = refl;
         left-together = refl;
       }

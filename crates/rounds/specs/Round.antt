@@ -42,23 +42,20 @@ module _ (G : Instance) where
   abbrev pub cutBy : ℕ → ℕ → List ℕ → List ℕ
   cutBy agent n items = maximinPartition n (map (itemValue (valuation (G .valuations) agent)) items)
 
-  -- the cutter's cut of the items left into as many bundles as there are agents left
-  abbrev pub cutOf : List ℕ → List ℕ → List ℕ
-  cutOf agents items = cutBy (cutterOf agents) (length agents) items
-
   -- "One round has n yards left and a set of pieces left"
   unfoldable pub round : List ℕ → List ℕ → Round
   round agents items =
-      let l = cutOf agents items in
+      let cutter = cutterOf agents in
+      let l = cutBy cutter (length agents) items in
       let suited : ℕ → ℕ → Bool = suitsIn items l in
       record {
         agents = agents;
         items = items;
-        cutter = cutterOf agents;
-        served = servedOf suited agents;
-        bundles = map (bundle items l) (chosenOf suited agents);
-        waiting = waitingOf suited agents;
-        left = itemsIn (λ c. not (elem c (chosenOf suited agents))) items l;
+        cutter = cutter;
+        served = servedOf suited cutter agents;
+        bundles = map (bundle items l) (chosenOf suited cutter agents);
+        waiting = waitingOf suited cutter agents;
+        left = itemsIn (λ c. not (elem c (chosenOf suited cutter agents))) items l;
       }
 
   -- "If yards wait, the pieces of every pile not handed out are put together, and the waiting yards divide them by the same steps":

@@ -1,4 +1,3 @@
 -- Laws of one round of the agents left. A caller of `serve` cites those of AgentsLeft and Parts.
 pub mod AgentsLeft
 pub mod Parts
-pub mod Others

@@ -7,7 +7,7 @@ use Rattle.lists.specs.Lists.{nth}
 use Rattle.sheet.specs.Limits.{mostAgents}
 use Rattle.sheet.specs.Sets.{itemsOf, setOf}
 use Rattle.sheet.specs.Listed.{numbered}
-use Rattle.matching.specs.Matching.{cutterOf, waitingOf, servedOf, chosenOf}
+use Rattle.matching.specs.Matching.{waitingOf, servedOf, chosenOf}
 use Rattle.serving.specs.declared.Serving.{Serving}
 
 -- "A pile suits a yard": by a table with a row for each agent (yard) and a place in it for each bundle (pile)
@@ -18,12 +18,11 @@ suitsOf suits agent bundle = nth false (nth [] suits agent) bundle
 abbrev pub agentsIn : ℕ → List ℕ
 agentsIn left = itemsOf (left % 2 ^ mostAgents)
 
--- "One round has n yards left": the cutter (0 where none is left), the yards served, their piles at the same places, the set of those who wait
-unfoldable pub servingOf : (ℕ → ℕ → Bool) → List ℕ → Serving
-servingOf suits agents =
+-- "One round has n yards left", one of them the cutter: the yards served, their piles at the same places, the set of those who wait
+unfoldable pub servingOf : (ℕ → ℕ → Bool) → ℕ → List ℕ → Serving
+servingOf suits cutter agents =
     record {
-      cutter = cutterOf agents;
-      served = numbered (servedOf suits agents);
-      chosen = numbered (chosenOf suits agents);
-      waiting = setOf (waitingOf suits agents);
+      served = numbered (servedOf suits cutter agents);
+      chosen = numbered (chosenOf suits cutter agents);
+      waiting = setOf (waitingOf suits cutter agents);
     }

@@ -1,5 +1,6 @@
 // One round of the agents (yards) left: who cuts, who waits, and who is served with which bundle (pile).
 ghost use mathlib.Core.Path.{_≡_};
+ghost use Rattle.matching.specs.Matching.{cutterOf};
 ghost use Rattle.serving.specs.Serving.{suitsOf, agentsIn, servingOf};
 use crate::choosing::matched;
 use crate::served::served;
@@ -18,9 +19,8 @@ mod waiting;
 // Whether a bundle (place) suits an agent (row).
 pub type Suits = [[bool; Sheet::AGENTS]; Sheet::AGENTS];
 
-// What one round settles: its cutter, the agents served, their bundles at the same places, and the set of the agents that wait.
+// What one round settles: the agents served, their bundles at the same places, and the set of the agents that wait.
 pub struct Serving {
-    pub cutter: u8,
     pub served: Numbers,
     pub chosen: Numbers,
     pub waiting: u16,
@@ -29,19 +29,28 @@ pub struct Serving {
 // The number of sets of the agents of a sheet.
 const AGENT_SETS: u16 = 1 << Sheet::AGENTS;
 
-// One round of the agents left: a set of agents, in which those above the last agent of a sheet are passed over.
-pub fn serve(suits: Suits, left: u16) -> Serving
-    ensures { λ r. ⌜ r ≡ servingOf (suitsOf suits) (agentsIn left) ⌝ }
+// The cutter of a round of the agents left, a set of agents in which those above the last agent of a sheet are passed over: the
+// lowest-numbered of them, 0 where none is left.
+pub fn cutter_of(left: u16) -> u8
+    ensures { λ r. ⌜ r ≡ cutterOf (agentsIn left) ⌝ }
 {
     let agents = items_of(left % AGENT_SETS);
-    let waiting = waiting(suits, agents);
+    let numbers = agents.numbers;
+    numbers[0]
+}
+
+// One round of the agents left, a set of agents as above, with the one of them who cuts: where the cutter is not one of them, each of them
+// may wait.
+pub fn serve(suits: Suits, cutter: u8, left: u16) -> Serving
+    ensures { λ r. ⌜ r ≡ servingOf (suitsOf suits) cutter (agentsIn left) ⌝ }
+{
+    let agents = items_of(left % AGENT_SETS);
+    let waiting = waiting(suits, cutter, agents);
     let served = served(waiting, agents);
     let free = free(suits, waiting, agents.count);
     let chosen = matched(suits, served, free);
-    let numbers = agents.numbers;
     let waits = waiting.numbers;
     Serving {
-        cutter: numbers[0],
         served,
         chosen,
         waiting: set_of(waits),

@@ -1,4 +1,4 @@
-// The agents that are served: those of the agents left that do not wait.
+// The agents left that are not in a list: those who are served are not in the list of those who wait, the others not in that of the cutter.
 ghost use mathlib.Core.Path.{_≡_};
 ghost use Rattle.sheet.specs.Listed.{numbered, listed};
 ghost use Rattle.matching.specs.Matching.{servedAgents};
@@ -8,7 +8,7 @@ use sheet::listing::append;
 use sheet::listing::contains;
 use sheet::listing::none;
 
-// The agents that do not wait.
+// The agents that are not in the list `waiting`.
 pub(crate) fn served(waiting: Numbers, agents: Numbers) -> Numbers
     requires { ⌜ IsNumbered waiting × OfSheet agents ⌝ }
     ensures { λ r. ⌜ r ≡ numbered (servedAgents (listed waiting) (listed agents)) ⌝ }

@@ -9,6 +9,7 @@ ghost use Rattle.serving.specs.Serving.{suitsOf};
 ghost use Rattle.serving.specs.internal.Listing.{IsNumbered, OfSheet, RisingAgents};
 ghost use Rattle.serving.specs.internal.Searching.{Searching, largestTight};
 use crate::Suits;
+use crate::served::served;
 use crate::suiting::free;
 use sheet::listing::Numbers;
 use sheet::listing::append;
@@ -43,15 +44,13 @@ fn largest(suits: Suits, others: &[u8], bundles: usize, chosen: Numbers, best: N
     largest(suits, rest, bundles, chosen, better)
 }
 
-// The agents that wait: the cutter, who is the first, does not.
-pub(crate) fn waiting(suits: Suits, agents: Numbers) -> Numbers
+// The agents that wait: the cutter does not.
+pub(crate) fn waiting(suits: Suits, cutter: u8, agents: Numbers) -> Numbers
     requires { ⌜ RisingAgents agents ⌝ }
-    ensures { λ r. ⌜ r ≡ numbered (waitingOf (suitsOf suits) (listed agents)) ⌝ }
+    ensures { λ r. ⌜ r ≡ numbered (waitingOf (suitsOf suits) cutter (listed agents)) ⌝ }
 {
-    let count = agents.count;
-    if count == 0 {
-        return none();
-    }
-    let numbers = agents.numbers;
-    largest(suits, &numbers[1..count], count, none(), none())
+    let others = served(append(none(), cutter), agents);
+    let numbers = others.numbers;
+    let count = others.count;
+    largest(suits, &numbers[..count], agents.count, none(), none())
 }

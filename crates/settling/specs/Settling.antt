@@ -8,27 +8,26 @@ use Rattle.sheet.specs.Limits.{mostAgents}
 use Rattle.sheet.specs.Sets.{setOf}
 use Rattle.sheet.specs.Listed.{numbered}
 use Rattle.bundling.specs.Bundles.{bundleSets}
-use Rattle.matching.specs.Matching.{cutterOf, waitingOf, servedOf, chosenOf}
+use Rattle.matching.specs.Matching.{waitingOf, servedOf, chosenOf}
 use Rattle.serving.specs.Serving.{suitsOf, agentsIn}
 use Rattle.settling.specs.Suiting.{suitsTable}
 use Rattle.settling.specs.declared.Settled.{Settled}
 
-module _ (agents : ℕ) (table : List (List ℕ)) (shares : List ℕ) (left set : ℕ) (partition : List ℕ) where
+module _ (agents : ℕ) (table : List (List ℕ)) (shares : List ℕ) (cutter left set : ℕ) (partition : List ℕ) where
   -- whether a bundle (pile) of the partition suits an agent (yard)
   abbrev pub bundleSuits : ℕ → ℕ → Bool
   bundleSuits = suitsOf (suitsTable agents table shares (bundleSets set partition))
 
   -- the sets of the bundles that are handed out, 0 after the last
   abbrev pub handedSets : List ℕ
-  handedSets = padded mostAgents 0 (map (nth 0 (bundleSets set partition)) (chosenOf bundleSuits (agentsIn left)))
+  handedSets = padded mostAgents 0 (map (nth 0 (bundleSets set partition)) (chosenOf bundleSuits cutter (agentsIn left)))
 
-  -- the cutter, the yards served with their piles, the yards that wait, and "the pieces of every pile not handed out"
+  -- the yards served with their piles, the yards that wait, and "the pieces of every pile not handed out"
   unfoldable pub settledBy : Settled
   settledBy =
       record {
-        cutter = cutterOf (agentsIn left);
-        served = numbered (servedOf bundleSuits (agentsIn left));
+        served = numbered (servedOf bundleSuits cutter (agentsIn left));
         sets = handedSets;
-        waiting = setOf (waitingOf bundleSuits (agentsIn left));
+        waiting = setOf (waitingOf bundleSuits cutter (agentsIn left));
         left = set - total handedSets;
       }

@@ -15,38 +15,37 @@ use sheet::listing::Numbers;
 mod handing;
 mod suiting;
 
-// What one round settles: its cutter, the agents served with the sets of their bundles at the same places, the set of the agents that
-// wait, and the set of the items left.
+// What one round settles: the agents served with the sets of their bundles at the same places, the set of the agents that wait, and the
+// set of the items left.
 pub struct Settled {
-    pub cutter: u8,
     pub served: Numbers,
     pub sets: Sets,
     pub waiting: u16,
     pub left: u16,
 }
 
-// One round of the agents left and the items left, in a division among so many agents; `partition` is the cutter's cut of the items left.
-// The number of agents and the shares are cut to the limits of a sheet.
+// One round of the agents left and the items left, in a division among so many agents; `cutter` is one of the agents left, and `partition`
+// its cut of the items left. The number of agents and the shares are cut to the limits of a sheet.
 pub fn settle_round(
     table: Table,
     shares: Amounts,
     agents: usize,
+    cutter: u8,
     left: u16,
     set: u16,
     partition: Partition,
 ) -> Settled
-    ensures { λ r. ⌜ r ≡ settledBy agents table shares left set partition ⌝ }
+    ensures { λ r. ⌜ r ≡ settledBy agents table shares cutter left set partition ⌝ }
 {
     let sets = bundle_sets(set, partition);
     let suits = suits_table(table, shares, agents, sets);
-    let round = serve(suits, left);
+    let round = serve(suits, cutter, left);
     let chosen = round.chosen;
     let numbers = chosen.numbers;
     let count = chosen.count;
     let handed = chosen_sets(sets, &numbers[..count]);
     let served = round.served;
     Settled {
-        cutter: round.cutter,
         served,
         sets: handed,
         waiting: round.waiting,

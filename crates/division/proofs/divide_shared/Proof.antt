@@ -1,12 +1,12 @@
 -- `division::divide_shared` meets its contract: what the rounds hand out, its grade, the shares and the cuts are those of the definition.
 -- Assumes nothing.
 use mathlib.Core.Path.{_≡_, ap, ap₂, subst⁻¹, _∙_}
-use mathlib.Core.List.{[]}
+use mathlib.Core.List.{[], List·Memᴰ as Mem}
 use Prim.Native.Nat.{ℕ}
 use native.Mathlib.Omega.{arith}
-use lib.ListN.{getD}
 use borrow.Author.Needs.{needs}
-use Rattle.lists.specs.Lists.{range}
+use Rattle.lists.specs.Lists.{range, nth}
+use Rattle.lists.proofs.ranges.Ranges.{range-bounds, length-range}
 use Rattle.sheet.specs.Limits.{mostAgents, mostItems}
 use Rattle.sheet.specs.Sets.{itemsOf, setOf}
 use Rattle.shares.specs.Shares.{sharing}
@@ -14,52 +14,78 @@ use Rattle.shares.specs.Outcome.{outcome}
 use Rattle.shares.specs.declared.Cut.{Cut}
 use Rattle.shares.specs.declared.Outcome.{Outcome}
 use Rattle.grades.specs.Grade.{gradeIn}
+use Rattle.matching.specs.Matching.{cutterOf}
+use Rattle.matching.proofs.Cutter.{cutterOf-mem}
 use Rattle.serving.specs.Serving.{agentsIn}
 use Rattle.margins.specs.Terms.{termsFor}
 use Rattle.division.specs.internal.Left.{instanceFrom, Ready}
 use Rattle.division.specs.internal.Allocation.{nothing, allottedAll}
 use Rattle.division.specs.declared.dividing.Allocation.{Allocation}
-use Rattle.division.proofs.rounds.Accepted.{upTo-is, allAgents, allItems, ready-all, first-cut, placedSets, placedCutters, allotted-accepted, outcome-accepted}
+use Rattle.division.proofs.rounds.Accepted.{upTo-is, allAgents, allItems, agentsIn-all, ready-all, own-cut, placedSets, placedCutters, allotted-accepted, outcome-accepted}
 use Rattle.division.proofs.divide_shared.Statement.{statement}
 use Rattle.division.proofs.divide_shared.Tie as tie
 
-array-copy-out-first : tie.Need-array-copy-out-first
-array-copy-out-first c = search needs
+-- the start, before the set of all agents is known, and the point where the cutter is known
+abbrev start : tie.After-all-items → tie.Start
+start c = c .before .before .before
 
-nothing-handed-out-requires : tie.Need-nothing-handed-out-requires
-nothing-handed-out-requires c κs = search needs
+abbrev at-cutter : tie.After-nothing-handed-out → tie.After-cutter-of
+at-cutter c = c .before .before .before
+
+-- the set of all agents, and that of all items
+agents-are : (c : tie.After-all-items) → let s = start c in c .all-items .result ≡ allAgents (s .args .agents) (s .args .items) (s .args .table) (s .pre .counts)
+agents-are c =
+    let s = start c in
+    c .all-items .ensures ∙ upTo-is (s .args .agents) mostAgents (s .pre .counts .few) (omega arith)
+
+items-are : (c : tie.After-all-items2) → let s = start (at-cutter (c .before) .before) in c .all-items2 .result ≡ allItems (s .args .agents) (s .args .items) (s .args .table) (s .pre .counts)
+items-are c =
+    let s = start (at-cutter (c .before) .before) in
+    c .all-items2 .ensures ∙ upTo-is (s .args .items) mostItems (s .pre .counts .few-items) (omega arith)
+
+-- the cutter is one of the agents
+cutter-mem : (c : tie.After-cutter-of) → Mem (c .cutter-of .result) (range 1 (start (c .before) .args .agents))
+cutter-mem c =
+    let s = start (c .before) in
+    let n = s .args .agents in
+    let all = ap agentsIn (agents-are (c .before)) ∙ agentsIn-all n (s .args .items) (s .args .table) (s .pre .counts) in
+    subst⁻¹ (λ k. Mem k (range 1 n)) (c .cutter-of .ensures ∙ ap cutterOf all) (cutterOf-mem (range 1 n) (omega (arith, length-range 1 n, s .pre .counts .some)))
 
 all-items-requires : tie.Need-all-items-requires
 all-items-requires c κs = search needs
 
+cutter-of-requires : tie.Need-cutter-of-requires
+cutter-of-requires c κs = search needs
+
+cast-own-cut : tie.Need-cast-own-cut
+cast-own-cut c = search needs
+
+sub-own-cut : tie.Need-sub-own-cut
+sub-own-cut c = range-bounds 1 (start (c .before) .args .agents) (cutter-mem c) .0
+
+mul-own-cut : tie.Need-mul-own-cut
+mul-own-cut c = search needs
+
+array-copy-out-own-cut : tie.Need-array-copy-out-own-cut
+array-copy-out-own-cut c = let s = start (c .before) in omega (arith, range-bounds 1 (s .args .agents) (cutter-mem c), s .pre .counts .few)
+
+nothing-handed-out-requires : tie.Need-nothing-handed-out-requires
+nothing-handed-out-requires c κs = search needs
+
 all-items-requires-2 : tie.Need-all-items-requires-2
 all-items-requires-2 c κs = search needs
 
--- the start, before the point where nothing is handed out
-abbrev start : tie.After-nothing-handed-out → tie.Start
-start c = c .before .before .before .before .before
-
--- the set of all agents, and that of all items
-agents-are : (c : tie.After-all-items) → let s = start (c .before) in c .all-items .result ≡ allAgents (s .args .agents) (s .args .items) (s .args .table) (s .pre .counts)
-agents-are c =
-    let s = start (c .before) in
-    c .all-items .ensures ∙ upTo-is (s .args .agents) mostAgents (s .pre .counts .few) (omega arith)
-
-items-are : (c : tie.After-all-items2) → let s = start (c .before .before) in c .all-items2 .result ≡ allItems (s .args .agents) (s .args .items) (s .args .table) (s .pre .counts)
-items-are c =
-    let s = start (c .before .before) in
-    c .all-items2 .ensures ∙ upTo-is (s .args .items) mostItems (s .pre .counts .few-items) (omega arith)
-
 divide-left-requires : tie.Need-divide-left-requires
 divide-left-requires c κs =
-    let at-nothing = c .before .before in
-    let s = start at-nothing in
+    let at-nothing = c .before in
+    let cutter = at-cutter at-nothing in
+    let s = start (cutter .before) in
     let a = s .args in
-    let none : Cut = record { partition = [] } in
-    rw (agents-are (c .before), items-are c) (
-      subst⁻¹ (Ready (a .agents) (a .own .shares) (a .allowance) (setOf (range 1 (a .agents))) (setOf (range 1 (a .items)))) (at-nothing .nothing-handed-out .ensures)
-          (ready-all (a .agents) (a .items) (a .table) (s .pre .counts) (a .allowance) (s .pre .enough) (a .own .shares) (s .pre .small-shares)),
-      ap (λ o. getD (o .cuts) 0 none .partition) (s .pre .own-shares) ∙ first-cut (a .agents) (a .items) (a .table) (s .pre .counts) none,
+    let none : Cut = record { partition = [] } in (
+      rw (agents-are (cutter .before), items-are c) (subst⁻¹ (Ready (a .agents) (a .own .shares) (a .allowance) (setOf (range 1 (a .agents))) (setOf (range 1 (a .items)))) (at-nothing .nothing-handed-out .ensures)
+          (ready-all (a .agents) (a .items) (a .table) (s .pre .counts) (a .allowance) (s .pre .enough) (a .own .shares) (s .pre .small-shares))),
+      cutter .cutter-of .ensures,
+      rw (agents-are (cutter .before), items-are c) (ap (λ o. nth none (o .cuts) (cutter .cutter-of .result) .partition) (s .pre .own-shares) ∙ own-cut (a .agents) (a .items) (a .table) (s .pre .counts) none (cutter .cutter-of .result) (cutter-mem cutter)),
     )
 
 worths-of-requires : tie.Need-worths-of-requires
@@ -73,22 +99,23 @@ grade-of-requires c κs = search needs
 
 -- what the rounds hand out
 handed : (c : tie.After-divide-left)
-    → let s = start (c .before .before .before) in
+    → let s = start (at-cutter (c .before .before) .before) in
     (c .divide-left .result .bundles ≡ placedSets (s .args .agents) (s .args .items) (s .args .table) (s .pre .counts))
     × (c .divide-left .result .cutters ≡ placedCutters (s .args .agents) (s .args .items) (s .args .table) (s .pre .counts))
 handed c =
     let at-items = c .before in
-    let at-nothing = at-items .before .before in
-    let s = start at-nothing in
+    let at-nothing = at-items .before in
+    let at-agents = at-cutter at-nothing .before in
+    let s = start at-agents in
     let a = s .args in
     let run : Outcome → ℕ → ℕ → Allocation → Allocation = λ own left set. allottedAll (instanceFrom (termsFor (a .agents)) (a .table) (own .shares)) (agentsIn left) (itemsOf set) in
-    let left = at-items .before .all-items .result in
+    let left = at-agents .all-items .result in
     let set = at-items .all-items2 .result in
     let out =
     c .divide-left .ensures
     ∙ ap (run (a .own) left set) (at-nothing .nothing-handed-out .ensures)
     ∙ ap (λ own. run own left set nothing) (s .pre .own-shares)
-    ∙ ap₂ (λ left set. run (outcome (sharing (a .agents) (a .items) (a .table))) left set nothing) (agents-are (at-items .before)) (items-are at-items) in
+    ∙ ap₂ (λ left set. run (outcome (sharing (a .agents) (a .items) (a .table))) left set nothing) (agents-are at-agents) (items-are at-items) in
     let accepted = allotted-accepted (a .agents) (a .items) (a .table) (s .pre .counts) in
     (ap (λ r. r .bundles) out ∙ accepted .0, ap (λ r. r .cutters) out ∙ accepted .1)
 
@@ -97,7 +124,7 @@ returns c =
     let margined = c .before in
     let valued = margined .before in
     let at-handed = valued .before .before .before in
-    let s = start (at-handed .before .before .before) in
+    let s = start (at-cutter (at-handed .before .before) .before) in
     let a = s .args in
     outcome-accepted (a .agents) (a .items) (a .table) (s .pre .counts) (c .grade-of .result) (at-handed .divide-left .result .bundles) (at-handed .divide-left .result .cutters) (valued .worths-of .result) (a .own)
     (c .grade-of .ensures ∙ ap (λ margins. gradeIn (a .agents) (a .items) (a .table) (a .own .shares) margins (at-handed .divide-left .result .bundles)) (margined .margins-of .ensures))
@@ -107,9 +134,13 @@ pub divide-shared-spec : {M : Type 1} → statement M
 divide-shared-spec =
     tie.close
     (tie.spec
-    array-copy-out-first
-    nothing-handed-out-requires
     all-items-requires
+    cutter-of-requires
+    cast-own-cut
+    sub-own-cut
+    mul-own-cut
+    array-copy-out-own-cut
+    nothing-handed-out-requires
     all-items-requires-2
     divide-left-requires
     worths-of-requires

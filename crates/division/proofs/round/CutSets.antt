@@ -34,8 +34,8 @@ use Rattle.serving.specs.Serving.{agentsIn}
 use Rattle.serving.proofs.round.AgentsLeft.{agentsIn-sublist}
 use Rattle.serving.proofs.round.Parts.{chosen-within}
 use Rattle.margins.specs.Terms.{termsFor}
-use Rattle.rounds.specs.Round.{Instance, Round, cutOf, round}
-use Rattle.rounds.proofs.round.Parts.{cutSuits}
+use Rattle.rounds.specs.Round.{Instance, Round, round}
+use Rattle.rounds.proofs.round.Parts.{cutterCut, cutSuits}
 use Rattle.settling.specs.Suiting.{setSuits, suitsRow, suitsTable}
 use Rattle.settling.specs.Settling.{bundleSuits, settledBy}
 use Rattle.settling.specs.declared.Settled.{Settled}
@@ -46,7 +46,6 @@ use Rattle.division.proofs.round.SetSums.{setOf-handed}
 abbrev pub settled : Round → Settled
 settled r =
     record {
-      cutter = r .cutter;
       served = numbered (r .served);
       sets = padded mostAgents 0 (map setOf (r .bundles));
       waiting = setOf (r .waiting);
@@ -61,9 +60,12 @@ module _ {left set : ℕ} (ok : Cuttable left set) (n : ℕ) (few : n ≤ mostAg
   abbrev G : Instance
   G = instanceFrom (termsFor n) table shares
 
+  abbrev cutter : ℕ
+  cutter = cutterOf agents
+
   -- the cutter's partition
   abbrev l : List ℕ
-  l = cutOf G agents (itemsOf set)
+  l = cutterCut G agents (itemsOf set)
 
   -- its bundles as sets
   abbrev cutSets : List ℕ
@@ -75,7 +77,7 @@ module _ {left set : ℕ} (ok : Cuttable left set) (n : ℕ) (few : n ≤ mostAg
 
   entry-each : length l ≡ length (itemsOf set)
   entry-each =
-      let v = itemValue (valuation table (cutterOf agents)) in
+      let v = itemValue (valuation table cutter) in
       maximinPartition-within (length agents) (map v (itemsOf set)) (ok .some-left) .1 ∙ length-map (itemsOf set) v
 
   -- set c is that of bundle c
@@ -94,7 +96,7 @@ module _ {left set : ℕ} (ok : Cuttable left set) (n : ℕ) (few : n ≤ mostAg
 
   -- the table says which bundles suit whom
   abbrev tableSuits : ℕ → ℕ → Bool
-  tableSuits = bundleSuits n table shares left set (placed l)
+  tableSuits = bundleSuits n table shares cutter left set (placed l)
 
   suits-agree : Agree tableSuits suiting agents (bundleNumbers agents)
   unfolding suitsTable suitsRow
@@ -118,10 +120,10 @@ module _ {left set : ℕ} (ok : Cuttable left set) (n : ℕ) (few : n ≤ mostAg
 
   -- the bundles that are handed out
   abbrev handed : List ℕ
-  handed = chosenOf suiting agents
+  handed = chosenOf suiting cutter agents
 
   handed-within : Within mostAgents handed
-  handed-within = chosen-within suiting (agentsIn-sublist left)
+  handed-within = chosen-within suiting cutter (agentsIn-sublist left)
 
   -- their sets
   handed-sets : map (nth 0 cutSets) handed ≡ map setOf (map (bundle (itemsOf set) l) handed)
@@ -138,7 +140,7 @@ module _ {left set : ℕ} (ok : Cuttable left set) (n : ℕ) (few : n ≤ mostAg
         arith,
         total-zeros sets (mostAgents - length sets),
         ap total (handed-sets ∙ map-map setOf (bundle (itemsOf set) l) handed),
-        setOf-handed handed (itemsOf set) l (chosenOf-distinct suiting agents) entry-each,
+        setOf-handed handed (itemsOf set) l (chosenOf-distinct suiting cutter agents) entry-each,
         setOf-items set mostItems (ok .small-set) (omega arith),
       )
 
@@ -148,15 +150,15 @@ module _ {left set : ℕ} (ok : Cuttable left set) (n : ℕ) (few : n ≤ mostAg
   -- what the code's round settles, from the agents served, those who wait and the sets handed out
   abbrev settledFrom : List ℕ → List ℕ → List ℕ → ℕ → Settled
   settledFrom served waiting sets rest =
-      record { cutter = cutterOf agents; served = numbered served; sets = padded mostAgents 0 sets; waiting = setOf waiting; left = rest }
+      record { served = numbered served; sets = padded mostAgents 0 sets; waiting = setOf waiting; left = rest }
 
   -- it is what the definition's does
-  pub settled-round : settledBy n table shares left set (placed l) ≡ settled (round G agents (itemsOf set))
+  pub settled-round : settledBy n table shares cutter left set (placed l) ≡ settled (round G agents (itemsOf set))
   unfolding settledBy round
   settled-round =
       let sets-of : List ℕ → List ℕ = map (nth 0 cutSets) in
       let rest-of : List ℕ → ℕ = λ chosen. set - total (padded mostAgents 0 (sets-of chosen)) in
-      let chosen = chosenOf tableSuits agents in
-      ap₂ (λ served waiting. settledFrom served waiting (sets-of chosen) (rest-of chosen)) (servedOf-cong tableSuits suiting agents suits-agree) (waitingOf-cong tableSuits suiting agents suits-agree)
-      ∙ ap (λ chosen. settledFrom (servedOf suiting agents) (waitingOf suiting agents) (sets-of chosen) (rest-of chosen)) (chosenOf-cong tableSuits suiting agents suits-agree)
-      ∙ ap₂ (settledFrom (servedOf suiting agents) (waitingOf suiting agents)) handed-sets left-rest
+      let chosen = chosenOf tableSuits cutter agents in
+      ap₂ (λ served waiting. settledFrom served waiting (sets-of chosen) (rest-of chosen)) (servedOf-cong tableSuits suiting cutter agents suits-agree) (waitingOf-cong tableSuits suiting cutter agents suits-agree)
+      ∙ ap (λ chosen. settledFrom (servedOf suiting cutter agents) (waitingOf suiting cutter agents) (sets-of chosen) (rest-of chosen)) (chosenOf-cong tableSuits suiting cutter agents suits-agree)
+      ∙ ap₂ (settledFrom (servedOf suiting cutter agents) (waitingOf suiting cutter agents)) handed-sets left-rest

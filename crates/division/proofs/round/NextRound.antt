@@ -16,6 +16,7 @@ use Rattle.sheet.proofs.sets.Sets.{items-setOf}
 use Rattle.sheet.proofs.sets.Items.{items-sublist}
 use Rattle.sheet.proofs.sets.Ranges.{setOf-below}
 use Rattle.growth.proofs.Growths.{fewer-growths}
+use Rattle.matching.specs.Matching.{cutterOf}
 use Rattle.serving.specs.Serving.{agentsIn}
 use Rattle.serving.proofs.round.AgentsLeft.{agentsIn-sublist}
 use Rattle.serving.proofs.round.Parts.{served-rising, waiting-below, agentsIn-waiting}
@@ -35,16 +36,16 @@ module _ {left set : ℕ} (ok : Cuttable left set) (G : Instance) where
   -- the agents served are agents of a sheet
   pub served-within : Within mostAgents (r .served)
   unfolding round
-  served-within = range-sublist-within mostAgents (served-rising (cutSuits G (agentsIn left) (itemsOf set)) (agentsIn-sublist left))
+  served-within = range-sublist-within mostAgents (served-rising (cutSuits G (agentsIn left) (itemsOf set)) (cutterOf (agentsIn left)) (agentsIn-sublist left))
 
   pub served-few : length (r .served) ≤ mostAgents
   unfolding round
-  served-few = range-sublist-few mostAgents (served-rising (cutSuits G (agentsIn left) (itemsOf set)) (agentsIn-sublist left))
+  served-few = range-sublist-few mostAgents (served-rising (cutSuits G (agentsIn left) (itemsOf set)) (cutterOf (agentsIn left)) (agentsIn-sublist left))
 
   -- the agents in the set of those who wait
   pub agentsIn-next : agentsIn (setOf (r .waiting)) ≡ r .waiting
   unfolding round
-  agentsIn-next = agentsIn-waiting (cutSuits G (agentsIn left) (itemsOf set)) (agentsIn-sublist left)
+  agentsIn-next = agentsIn-waiting (cutSuits G (agentsIn left) (itemsOf set)) (cutterOf (agentsIn left)) (agentsIn-sublist left)
 
   pub none-waiting : setOf (r .waiting) ≡ 0 → r .waiting ≡ []
   unfolding itemsOf
@@ -72,7 +73,7 @@ module _ {left set : ℕ} (ok : Cuttable left set) (G : Instance) where
   unfolding round
   cuttable-next some =
       record {
-        small-left = waiting-below (cutSuits G (agentsIn left) (itemsOf set)) (agentsIn-sublist left);
+        small-left = waiting-below (cutSuits G (agentsIn left) (itemsOf set)) (cutterOf (agentsIn left)) (agentsIn-sublist left);
         some-left = rw agentsIn-next (some-member (r .waiting) some);
         small-set = setOf-below mostItems items-left;
       }

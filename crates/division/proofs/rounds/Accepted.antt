@@ -1,6 +1,6 @@
 -- A table that is not refused: where its rounds start, what they hand out, and the grade of that. Assumes nothing.
 use mathlib.Core.Path.{_≡_, refl, sym, ap, ap₂, subst, _∙_}
-use mathlib.Core.List.{List, [], _∷_, map, List·Memᴰ as Mem, List·Memᴰ·head as here, List·Memᴰ·tail as there}
+use mathlib.Core.List.{List, [], _∷_, map, map-map, List·Memᴰ as Mem, List·Memᴰ·head as here, List·Memᴰ·tail as there}
 use mathlib.Core.List.{Sublistᴰ as Sublist, Sublistᴰ·nil-sublist as nil-sublist}
 use Prim.Native.Nat.{ℕ, zero, suc, _-_, _^_, _≤_, _<_, min}
 use native.Mathlib.Omega.{arith}
@@ -8,6 +8,7 @@ use lib.IntN.{pos}
 use lib.ListN.{length, getD, List·getD-map}
 use Rattle.lists.specs.Lists.{range, nth, padded}
 use Rattle.lists.proofs.ranges.Ranges.{length-range, range-sublist, nth-map-range}
+use Rattle.lists.proofs.places.Places.{nth-padded-range}
 use Rattle.sheet.specs.Limits.{mostAgents, mostItems, setBits, CountsWithin, InUse}
 use Rattle.sheet.proofs.Limits.{counts-in-use}
 use Rattle.sheet.specs.Answers.{accepted}
@@ -38,7 +39,7 @@ use Rattle.rounds.specs.Division.{standardInstance, allRounds, allocation, allo
 use Rattle.rounds.proofs.density.Terms.{termsFor-allowed}
 use Rattle.rounds.proofs.Allocation.{sound, allocation-sublist}
 use Rattle.division.specs.Outcome.{outcome}
-use Rattle.division.specs.internal.Left.{cutByLowest, Ready}
+use Rattle.division.specs.internal.Left.{cutLeft, Ready}
 use Rattle.division.specs.internal.Allocation.{nothing, allottedAll}
 use Rattle.division.specs.declared.Answer.the-variants.{Divided}
 use Rattle.division.proofs.Outcomes.{items-setOf-bundle}
@@ -95,14 +96,16 @@ module _ (n m : ℕ) (table : List (List ℕ)) (counts : CountsWithin n m) where
         places = omega (arith, ap length agentsIn-all, length-range 1 n, counts .few);
       }
 
-  -- the first agent's cut is the partition of the first round
-  pub first-cut : (other : Cut) → getD (sharesOutcome (sharing n m table) .cuts) 0 other .partition ≡ placed (cutByLowest table (agentsIn allAgents) (itemsOf allItems))
+  -- each agent's own cut is the partition of the first round, where that agent cuts
+  pub own-cut : (other : Cut) (cutter : ℕ) → Mem cutter (range 1 n)
+      → nth other (sharesOutcome (sharing n m table) .cuts) cutter .partition ≡ placed (cutLeft table cutter (agentsIn allAgents) (itemsOf allItems))
   unfolding profile
-  first-cut other = rw (cuts-within n m table counts, agentsIn-all, itemsOf-all) (first n (counts .some))
-    where
-      first : (k : ℕ) → 1 ≤ k → getD (padded mostAgents blankCut (map cutOf (map (maximinPartition k) (profile k m table)))) 0 other .partition ≡ placed (cutByLowest table (range 1 k) (range 1 m))
-      first zero some = absurd (omega arith)
-      first (suc k) some = ap (λ i. placed (maximinPartition i (allValues m (valuation table 1)))) (sym (length-range 1 (suc k)))
+  own-cut other cutter i =
+      let row : ℕ → List ℕ = λ k. allValues m (valuation table k) in
+      let own : ℕ → Cut = λ k. cutOf (maximinPartition n (row k)) in
+      let each : map cutOf (map (maximinPartition n) (profile n m table)) ≡ map own (range 1 n) =
+      ap (map cutOf) (map-map (maximinPartition n) row (range 1 n)) ∙ map-map cutOf (λ k. maximinPartition n (row k)) (range 1 n) in
+      rw (cuts-within n m table counts, agentsIn-all, itemsOf-all, length-range 1 n, each) (ap (λ c. c .partition) (nth-padded-range mostAgents blankCut other own n i))
 
   -- the bundles of the division
   abbrev bundles : List (List ℕ)

@@ -29,9 +29,9 @@ use Rattle.matching.proofs.Parts.{waitingOf-cong, chosenOf-cong}
 use Rattle.matching.proofs.Congruence.{Agree}
 use Rattle.margins.specs.Terms.{termsFor}
 use Rattle.margins.specs.declared.Terms.{Terms}
-use Rattle.rounds.specs.Round.{Round, Instance, suits, cutOf, round, rounds}
+use Rattle.rounds.specs.Round.{Round, Instance, suits, round, rounds}
 use Rattle.rounds.specs.Division.{standardInstance, allRounds}
-use Rattle.rounds.proofs.round.Parts.{cutSuits, waiting-sub, left-sub}
+use Rattle.rounds.proofs.round.Parts.{cutterCut, cutSuits, waiting-sub, left-sub}
 use Rattle.division.specs.internal.Left.{instanceFrom}
 
 -- two instances that say the same of the agents and the items
@@ -58,11 +58,14 @@ module _ {G H : Instance} where
         (ap₂ (λ (t : Terms) v. t .bottom * total v) (same .same-terms) values)
 
     module _ (some : 1 ≤ length agents) where
-      cut-same : cutOf G agents items ≡ cutOf H agents items
-      cut-same = ap (maximinPartition (length agents)) (map-cong _ _ items (λ k mk. same .same-values (cutterOf agents) (cutterOf-mem agents some) k mk))
+      abbrev cutter : ℕ
+      cutter = cutterOf agents
+
+      cut-same : cutterCut G agents items ≡ cutterCut H agents items
+      cut-same = ap (maximinPartition (length agents)) (map-cong _ _ items (λ k mk. same .same-values cutter (cutterOf-mem agents some) k mk))
 
       agree : Agree (cutSuits G agents items) (cutSuits H agents items) agents (bundleNumbers agents)
-      agree agent m c mc = suits-same agent m (itemsIn-sublist (eqb c) items (cutOf G agents items)) ∙ ap (λ l. suits H agent (bundle items l c)) cut-same
+      agree agent m c mc = suits-same agent m (itemsIn-sublist (eqb c) items (cutterCut G agents items)) ∙ ap (λ l. suits H agent (bundle items l c)) cut-same
 
       -- a round, from the cutter's partition, the agents that wait and the bundles chosen
       settling : List ℕ → List ℕ → List ℕ → Round
@@ -70,7 +73,7 @@ module _ {G H : Instance} where
           record {
             agents = agents;
             items = items;
-            cutter = cutterOf agents;
+            cutter = cutter;
             served = servedAgents waiting agents;
             bundles = map (bundle items l) hands;
             waiting = waiting;
@@ -82,8 +85,8 @@ module _ {G H : Instance} where
       round-same =
           let s = cutSuits G agents items in
           let t = cutSuits H agents items in
-          ap (λ l. settling l (waitingOf s agents) (chosenOf s agents)) cut-same
-          ∙ ap₂ (λ w hands. settling (cutOf H agents items) w hands) (waitingOf-cong s t agents agree) (chosenOf-cong s t agents agree)
+          ap (λ l. settling l (waitingOf s cutter agents) (chosenOf s cutter agents)) cut-same
+          ∙ ap₂ (λ w hands. settling (cutterCut H agents items) w hands) (waitingOf-cong s t cutter agents agree) (chosenOf-cong s t cutter agents agree)
 
   pub rounds-same : (most : ℕ) (agents items : List ℕ) → Alike G H agents items → rounds G most agents items ≡ rounds H most agents items
   unfolding rounds

@@ -9,7 +9,6 @@ use Rattle.sheet.specs.Tables.{valuation}
 use Rattle.sheet.specs.Amounts.{SmallAmounts}
 use Rattle.growth.specs.Growth.{growths}
 use Rattle.maximin.specs.Share.{maximinPartition}
-use Rattle.matching.specs.Matching.{cutterOf}
 use Rattle.serving.specs.Serving.{agentsIn}
 use Rattle.rounds.specs.Round.{Instance}
 use Rattle.margins.specs.declared.Terms.{Terms}
@@ -20,8 +19,8 @@ abbrev pub instanceFrom : Terms → List (List ℕ) → List ℕ → Instance
 instanceFrom terms table shares = record { terms = terms; valuations = table; shares = shares }
 
 -- the cutter's cut of the items left into as many bundles as there are agents left
-abbrev pub cutByLowest : List (List ℕ) → List ℕ → List ℕ → List ℕ
-cutByLowest table agents items = maximinPartition (length agents) (map (itemValue (valuation table (cutterOf agents))) items)
+abbrev pub cutLeft : List (List ℕ) → ℕ → List ℕ → List ℕ → List ℕ
+cutLeft table cutter agents items = maximinPartition (length agents) (map (itemValue (valuation table cutter)) items)
 
 -- some agents are left, and both sets are those of a sheet
 pub record Cuttable (left set : ℕ) : Type 0 where

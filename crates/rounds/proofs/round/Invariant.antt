@@ -22,7 +22,7 @@ use Rattle.sheet.specs.Tables.{valuation}
 use Rattle.shares.specs.Shares.{shareOf}
 use Rattle.matching.specs.Matching.{Matched, cutterOf, bundleNumbers, waitingOf, servedOf, freeOf, chosenOf}
 use Rattle.bundling.specs.Bundles.{bundle}
-use Rattle.rounds.specs.Round.{Instance, suits, cutOf, Round, round}
+use Rattle.rounds.specs.Round.{Instance, suits, Round, round}
 use Rattle.matching.proofs.Matching.{suited-length}
 use mathlib.Core.List.{map-map}
 use Rattle.bundling.proofs.Bundles.{itemsIn-none}
@@ -32,7 +32,7 @@ use Rattle.matching.proofs.Cutter.{cutterOf-mem}
 use Rattle.matching.proofs.Serving.{served-or-waiting, free-unsuited, served-matched, none-waiting-all-handed}
 use Rattle.rounds.proofs.density.Terms.{Allowed}
 use Rattle.rounds.proofs.density.Balance.{density-balance}
-use Rattle.rounds.proofs.round.Parts.{cutSuits, waiting-sub, left-sub}
+use Rattle.rounds.proofs.round.Parts.{cutterCut, cutSuits, waiting-sub, left-sub}
 
 -- an instance of N agents and M items: terms that promise no more than document 01, and shares by the valuations
 pub record Sound (N M : ℕ) (G : Instance) : Type 0 where
@@ -66,7 +66,7 @@ module _ {N M : ℕ} {G : Instance} {agents items : List ℕ} (sound : Sound N M
   cutter = cutterOf agents
 
   abbrev l : List ℕ
-  l = cutOf G agents items
+  l = cutterCut G agents items
 
   abbrev suiting : ℕ → ℕ → Bool
   suiting = cutSuits G agents items
@@ -86,7 +86,7 @@ module _ {N M : ℕ} {G : Instance} {agents items : List ℕ} (sound : Sound N M
   pub served-distinct : distinct (r .served) ≡ true
   unfolding round
   served-distinct =
-      submultiset-distinct (servedOf suiting agents) agents (count-sublist (reject-sublist (λ a. elem a (waitingOf suiting agents)) agents)) agents-distinct
+      submultiset-distinct (servedOf suiting cutter agents) agents (count-sublist (reject-sublist (λ a. elem a (waitingOf suiting cutter agents)) agents)) agents-distinct
 
   agents-few : n ≤ N
   agents-few = omega (arith, length-sublist (state .of-agents), length-range 1 N)
@@ -114,49 +114,49 @@ module _ {N M : ℕ} {G : Instance} {agents items : List ℕ} (sound : Sound N M
       (omega (arith, least, leastBundle-maximinPartition n (map cutter-value items) some, bundleValue-items cutter-value c items l))))
 
   -- the agents served are matched with free bundles
-  pub matched : Matched suiting (servedOf suiting agents) (freeOf suiting agents) (chosenOf suiting agents)
-  matched = served-matched suiting agents cutter-suited
+  pub matched : Matched suiting (servedOf suiting cutter agents) (freeOf suiting cutter agents) (chosenOf suiting cutter agents)
+  matched = served-matched suiting cutter agents cutter-suited
 
   -- every agent that does not wait is served with a bundle that suits it
   pub round-suits : AllSuit (suits G) (r .served) (r .bundles)
   unfolding round
-  round-suits = suited-allSuit (suits G) (bundle items l) (servedOf suiting agents) (chosenOf suiting agents) (matched .suits-each)
+  round-suits = suited-allSuit (suits G) (bundle items l) (servedOf suiting cutter agents) (chosenOf suiting cutter agents) (matched .suits-each)
 
-  handed-and-left : (w : ℕ → ℕ) → sumOver (λ c. sumOver w (bundle items l c)) (chosenOf suiting agents) + sumOver w (r .left) ≡ sumOver w items
+  handed-and-left : (w : ℕ → ℕ) → sumOver (λ c. sumOver w (bundle items l c)) (chosenOf suiting cutter agents) + sumOver w (r .left) ≡ sumOver w items
   unfolding round
-  handed-and-left w = sumOver-handed w (chosenOf suiting agents) items l (matched .injective) (cut-within .1)
+  handed-and-left w = sumOver-handed w (chosenOf suiting cutter agents) items l (matched .injective) (cut-within .1)
 
   -- the bundles handed out and what is left are all items
   pub round-items : (w : ℕ → ℕ) → total (map (sumOver w) (r .bundles)) + sumOver w (r .left) ≡ sumOver w items
   unfolding round
   round-items w =
-      ap (λ v. total v + sumOver w (r .left)) (map-map (sumOver w) (bundle items l) (chosenOf suiting agents))
+      ap (λ v. total v + sumOver w (r .left)) (map-map (sumOver w) (bundle items l) (chosenOf suiting cutter agents))
       ∙ handed-and-left w
 
   -- where no agent waits, nothing is left
   pub none-waiting-none-left : length (r .waiting) ≡ 0 → r .left ≡ []
   unfolding round
   none-waiting-none-left none =
-      itemsIn-none (λ c. not (elem c (chosenOf suiting agents))) items l
+      itemsIn-none (λ c. not (elem c (chosenOf suiting cutter agents))) items l
       (λ c m. ap not (mem-elem (handed c (within-mem n l (cut-within .0) c m))))
     where
-      handed : (c : ℕ) → Mem c (bundleNumbers agents) → Mem c (chosenOf suiting agents)
-      handed = none-waiting-all-handed suiting agents cutter-suited agents-distinct none
+      handed : (c : ℕ) → Mem c (bundleNumbers agents) → Mem c (chosenOf suiting cutter agents)
+      handed = none-waiting-all-handed suiting cutter agents cutter-suited agents-distinct none
 
   -- to an agent that waits, what is handed out is worth at most the part top / bottom of its share for each agent served
-  handed-short : (agent : ℕ) → Mem agent (waitingOf suiting agents)
-      → G .terms .bottom * sumOver (λ c. valueTo G agent (bundle items l c)) (chosenOf suiting agents) ≤ length (chosenOf suiting agents) * promised G agent
+  handed-short : (agent : ℕ) → Mem agent (waitingOf suiting cutter agents)
+      → G .terms .bottom * sumOver (λ c. valueTo G agent (bundle items l c)) (chosenOf suiting cutter agents) ≤ length (chosenOf suiting cutter agents) * promised G agent
   handed-short agent m =
-      sumOver-le (λ c. valueTo G agent (bundle items l c)) (G .terms .bottom) (promised G agent) (chosenOf suiting agents)
+      sumOver-le (λ c. valueTo G agent (bundle items l c)) (G .terms .bottom) (promised G agent) (chosenOf suiting cutter agents)
       (λ c mc. le-of-lt (leb-false (promised G agent) (G .terms .bottom * valueTo G agent (bundle items l c))
-      (free-unsuited suiting agents agent c m (matched .from-bundles c mc))))
+      (free-unsuited suiting cutter agents agent c m (matched .from-bundles c mc))))
 
-  agents-gone : N - length (waitingOf suiting agents) ≡ (N - n) + length (chosenOf suiting agents)
+  agents-gone : N - length (waitingOf suiting cutter agents) ≡ (N - n) + length (chosenOf suiting cutter agents)
   agents-gone = omega (
     arith,
     agents-few,
-    served-or-waiting suiting agents agents-distinct,
-    suited-length suiting (servedOf suiting agents) (chosenOf suiting agents) (matched .suits-each),
+    served-or-waiting suiting cutter agents agents-distinct,
+    suited-length suiting (servedOf suiting cutter agents) (chosenOf suiting cutter agents) (matched .suits-each),
   )
 
   -- the invariant is kept
@@ -166,16 +166,16 @@ module _ {N M : ℕ} {G : Instance} {agents items : List ℕ} (sound : Sound N M
       record {
         of-agents = sublist-trans (waiting-sub G agents items) (state .of-agents);
         of-items = sublist-trans (left-sub G agents items) (state .of-items);
-        enough = λ agent m. rw (agents-gone, add-mul (N - n) (length (chosenOf suiting agents)) (promised G agent)) (kept agent m);
+        enough = λ agent m. rw (agents-gone, add-mul (N - n) (length (chosenOf suiting cutter agents)) (promised G agent)) (kept agent m);
       }
     where
-      kept : (agent : ℕ) → Mem agent (waitingOf suiting agents)
+      kept : (agent : ℕ) → Mem agent (waitingOf suiting cutter agents)
           → G .terms .bottom * valueTo G agent (range 1 M)
-          ≤ G .terms .bottom * valueTo G agent (r .left) + ((N - n) * promised G agent + length (chosenOf suiting agents) * promised G agent)
+          ≤ G .terms .bottom * valueTo G agent (r .left) + ((N - n) * promised G agent + length (chosenOf suiting cutter agents) * promised G agent)
       kept agent m = omega (
         arith,
         state .enough agent (sublist-mem (waiting-sub G agents items) m),
         handed-short agent m,
-        mul-add (G .terms .bottom) (sumOver (λ c. valueTo G agent (bundle items l c)) (chosenOf suiting agents)) (valueTo G agent (r .left)),
+        mul-add (G .terms .bottom) (sumOver (λ c. valueTo G agent (bundle items l c)) (chosenOf suiting cutter agents)) (valueTo G agent (r .left)),
         ap (λ v. G .terms .bottom * v) (handed-and-left (itemValue (valuation (G .valuations) agent))),
       )

@@ -9,16 +9,21 @@ use lib.ListN.{length}
 use Rattle.lists.specs.Lists.{elem}
 use Rattle.lists.proofs.members.Counting.{mem-filter, reject-mem}
 use Rattle.lists.proofs.members.Distinct.{not-mem-elem}
-use Rattle.matching.specs.Matching.{servedAgents, chosenOf}
+use Rattle.matching.specs.Matching.{servedAgents, cutterOf, chosenOf}
 use Rattle.bundling.specs.Bundles.{bundle}
-use Rattle.rounds.specs.Round.{Instance, suitsIn, cutOf, Round, round}
+use Rattle.rounds.specs.Round.{Instance, suitsIn, cutBy, Round, round}
 use Rattle.bundling.proofs.Bundles.{itemsIn-sublist}
+use Rattle.matching.proofs.Cutter.{cutterOf-mem}
 use Rattle.matching.proofs.Serving.{waiting-sublist, waiting-fewer}
 
 module _ (G : Instance) (agents items : List ℕ) where
+  -- the cutter's cut of the items left into as many bundles as there are agents left
+  abbrev pub cutterCut : List ℕ
+  cutterCut = cutBy G (cutterOf agents) (length agents) items
+
   -- which bundles of the cutter's cut suit whom
   abbrev pub cutSuits : ℕ → ℕ → Bool
-  cutSuits = suitsIn G items (cutOf G agents items)
+  cutSuits = suitsIn G items cutterCut
 
   abbrev r : Round
   r = round G agents items
@@ -27,23 +32,27 @@ module _ (G : Instance) (agents items : List ℕ) where
   unfolding round
   round-begins = (refl, refl)
 
+  pub round-cutter : r .cutter ≡ cutterOf agents
+  unfolding round
+  round-cutter = refl
+
   pub waiting-sub : Sublist (r .waiting) agents
   unfolding round
-  waiting-sub = waiting-sublist cutSuits agents
+  waiting-sub = waiting-sublist cutSuits (cutterOf agents) agents
 
   pub waiting-falls : 1 ≤ length agents → length (r .waiting) < length agents
   unfolding round
-  waiting-falls some = waiting-fewer cutSuits agents some
+  waiting-falls some = waiting-fewer cutSuits (cutterOf agents) agents (cutterOf-mem agents some)
 
   pub left-sub : Sublist (r .left) items
   unfolding round
-  left-sub = itemsIn-sublist _ items (cutOf G agents items)
+  left-sub = itemsIn-sublist _ items (cutterCut)
 
   pub bundles-sub : (b : List ℕ) → Mem b (r .bundles) → Sublist b items
   unfolding round
   bundles-sub b m =
-      let l = cutOf G agents items in
-      let (c, mc, e) = Memᴰ·of-map (bundle items l) (chosenOf cutSuits agents) m in
+      let l = cutterCut in
+      let (c, mc, e) = Memᴰ·of-map (bundle items l) (chosenOf cutSuits (cutterOf agents) agents) m in
       rw (← e) (itemsIn-sublist (eqb c) items l)
 
   -- the agents served are those that do not wait

@@ -18,50 +18,45 @@ use Rattle.sheet.proofs.sets.Sets.{items-setOf}
 use Rattle.sheet.proofs.sets.Ranges.{setOf-below}
 use Rattle.matching.specs.Matching.{waitingSet, matching, waitingOf, servedOf, freeOf, chosenOf}
 use Rattle.matching.proofs.Serving.{waiting-sublist}
-use Rattle.matching.proofs.Serving as matching
 use Rattle.matching.proofs.Parts.{servedOf-sublist, freeOf-sublist, chosenOf-within, chosenOf-few}
 use Rattle.serving.specs.Serving.{agentsIn, servingOf}
 use Rattle.serving.proofs.round.AgentsLeft.{agentsIn-items}
 
-module _ (suits : ℕ → ℕ → Bool) {agents : List ℕ} (rising : Sublist agents (range 1 mostAgents)) where
-  pub waiting-rising : Sublist (waitingOf suits agents) (range 1 mostAgents)
-  waiting-rising = sublist-trans (waiting-sublist suits agents) rising
+module _ (suits : ℕ → ℕ → Bool) (cutter : ℕ) {agents : List ℕ} (rising : Sublist agents (range 1 mostAgents)) where
+  pub waiting-rising : Sublist (waitingOf suits cutter agents) (range 1 mostAgents)
+  waiting-rising = sublist-trans (waiting-sublist suits cutter agents) rising
 
-  pub served-rising : Sublist (servedOf suits agents) (range 1 mostAgents)
-  served-rising = sublist-trans (servedOf-sublist suits agents) rising
+  pub served-rising : Sublist (servedOf suits cutter agents) (range 1 mostAgents)
+  served-rising = sublist-trans (servedOf-sublist suits cutter agents) rising
 
   bundles-sublist : Sublist (range 1 (length agents)) (range 1 mostAgents)
   bundles-sublist = range-sublist 1 (length agents) mostAgents (range-sublist-few mostAgents rising)
 
-  pub free-rising : Sublist (freeOf suits agents) (range 1 mostAgents)
-  free-rising = sublist-trans (freeOf-sublist suits agents) bundles-sublist
+  pub free-rising : Sublist (freeOf suits cutter agents) (range 1 mostAgents)
+  free-rising = sublist-trans (freeOf-sublist suits cutter agents) bundles-sublist
 
-  pub chosen-within : Within mostAgents (chosenOf suits agents)
+  pub chosen-within : Within mostAgents (chosenOf suits cutter agents)
   chosen-within =
-      mem-within mostAgents (chosenOf suits agents)
-      (λ bundle m. sublist-mem bundles-sublist (within-mem (length agents) (chosenOf suits agents) (chosenOf-within suits agents) bundle m))
+      mem-within mostAgents (chosenOf suits cutter agents)
+      (λ bundle m. sublist-mem bundles-sublist (within-mem (length agents) (chosenOf suits cutter agents) (chosenOf-within suits cutter agents) bundle m))
 
-  pub chosen-few : length (chosenOf suits agents) ≤ mostAgents
-  chosen-few = omega (arith, chosenOf-few suits agents, range-sublist-few mostAgents served-rising)
+  pub chosen-few : length (chosenOf suits cutter agents) ≤ mostAgents
+  chosen-few = omega (arith, chosenOf-few suits cutter agents, range-sublist-few mostAgents served-rising)
 
   -- the set of the agents that wait, and the agents in it
-  pub waiting-below : setOf (waitingOf suits agents) < 2 ^ mostAgents
+  pub waiting-below : setOf (waitingOf suits cutter agents) < 2 ^ mostAgents
   waiting-below = setOf-below mostAgents waiting-rising
 
-  pub waiting-named : Sublist (waitingOf suits agents) (range 1 setBits)
+  pub waiting-named : Sublist (waitingOf suits cutter agents) (range 1 setBits)
   waiting-named = sublist-trans waiting-rising (range-sublist 1 mostAgents setBits (omega arith))
 
-  pub items-waiting : itemsOf (setOf (waitingOf suits agents)) ≡ waitingOf suits agents
-  items-waiting = items-setOf (waitingOf suits agents) waiting-named
+  pub items-waiting : itemsOf (setOf (waitingOf suits cutter agents)) ≡ waitingOf suits cutter agents
+  items-waiting = items-setOf (waitingOf suits cutter agents) waiting-named
 
-  pub agentsIn-waiting : agentsIn (setOf (waitingOf suits agents)) ≡ waitingOf suits agents
-  agentsIn-waiting = agentsIn-items (setOf (waitingOf suits agents)) waiting-below ∙ items-waiting
+  pub agentsIn-waiting : agentsIn (setOf (waitingOf suits cutter agents)) ≡ waitingOf suits cutter agents
+  agentsIn-waiting = agentsIn-items (setOf (waitingOf suits cutter agents)) waiting-below ∙ items-waiting
 
-  -- where an agent is left, fewer wait
-  pub waiting-fewer : 1 ≤ length agents → length (agentsIn (setOf (waitingOf suits agents))) < length agents
-  waiting-fewer some = rw agentsIn-waiting (matching.waiting-fewer suits agents some)
-
--- where no agent is left, there is no cutter, and nothing is served
-pub servingOf-none : (suits : ℕ → ℕ → Bool) → servingOf suits (agentsIn 0) ≡ record { cutter = 0; served = numbered []; chosen = numbered []; waiting = 0 }
+-- where no agent is left, nothing is served
+pub servingOf-none : (suits : ℕ → ℕ → Bool) (cutter : ℕ) → servingOf suits cutter (agentsIn 0) ≡ record { served = numbered []; chosen = numbered []; waiting = 0 }
 unfolding servingOf itemsOf waitingSet matching
-servingOf-none suits = refl
+servingOf-none suits cutter = refl

@@ -31,19 +31,19 @@ serve-requires c κs = search needs
 -- what suits whom, the bundles chosen and their sets, by what the round is called with
 module _ (s : tie.Start) where
   abbrev suits-of : ℕ → ℕ → Bool
-  suits-of = bundleSuits (s .args .agents) (s .args .table) (s .args .shares) (s .args .left) (s .args .set) (s .args .partition)
+  suits-of = bundleSuits (s .args .agents) (s .args .table) (s .args .shares) (s .args .cutter) (s .args .left) (s .args .set) (s .args .partition)
 
   abbrev chosen-of : List ℕ
-  chosen-of = chosenOf suits-of (agentsIn (s .args .left))
+  chosen-of = chosenOf suits-of (s .args .cutter) (agentsIn (s .args .left))
 
   abbrev handed-of : List ℕ
-  handed-of = handedSets (s .args .agents) (s .args .table) (s .args .shares) (s .args .left) (s .args .set) (s .args .partition)
+  handed-of = handedSets (s .args .agents) (s .args .table) (s .args .shares) (s .args .cutter) (s .args .left) (s .args .set) (s .args .partition)
 
-serving-is : (c : tie.After-serve) → let s = c .before .before .before in c .serve .result ≡ servingOf (suits-of s) (agentsIn (s .args .left))
+serving-is : (c : tie.After-serve) → let s = c .before .before .before in c .serve .result ≡ servingOf (suits-of s) (s .args .cutter) (agentsIn (s .args .left))
 serving-is c =
     let a = c .before .before .before .args in
     c .serve .ensures
-    ∙ ap (λ t. servingOf (suitsOf t) (agentsIn (a .left)))
+    ∙ ap (λ t. servingOf (suitsOf t) (a .cutter) (agentsIn (a .left)))
     (c .before .suits-table .ensures ∙ ap (suitsTable (a .agents) (a .table) (a .shares)) (c .before .before .bundle-sets .ensures))
 
 chosen-is : (c : tie.After-serve) → c .serve .result .chosen ≡ numbered (chosen-of (c .before .before .before))
@@ -63,7 +63,7 @@ chosen-sets-requires : tie.Need-chosen-sets-requires
 chosen-sets-requires c κs =
     let at-serve = c .before .before .before in
     let s = at-serve .before .before .before in
-    rw (chosen-listed at-serve) (chosen-within (suits-of s) (agentsIn-sublist (s .args .left)), chosen-few (suits-of s) (agentsIn-sublist (s .args .left)))
+    rw (chosen-listed at-serve) (chosen-within (suits-of s) (s .args .cutter) (agentsIn-sublist (s .args .left)), chosen-few (suits-of s) (s .args .cutter) (agentsIn-sublist (s .args .left)))
 
 -- the sets that are handed out
 handed-is : (c : tie.After-chosen-sets) → c .chosen-sets .result ≡ handed-of (c .before .before .before .before .before .before .before)

@@ -12,11 +12,14 @@ use Rattle.sheet.specs.Sets.{itemsOf, setOf}
 use Rattle.sheet.specs.Listed.{numbered, listed}
 use Rattle.sheet.proofs.listing.Listed.{listed-is, count-listed, count-places}
 use Rattle.margins.specs.Terms.{termsFor}
+use Rattle.cut.specs.Outcome.{placed}
+use Rattle.matching.specs.Matching.{cutterOf}
+use Rattle.matching.proofs.Cutter.{cutterOf-mem}
 use Rattle.serving.specs.Serving.{agentsIn}
 use Rattle.settling.specs.Settling.{settledBy}
 use Rattle.rounds.specs.Round.{Instance, Round, round}
-use Rattle.rounds.proofs.round.Parts.{waiting-falls}
-use Rattle.division.specs.internal.Left.{instanceFrom, Cuttable, EnoughFor}
+use Rattle.rounds.proofs.round.Parts.{cutterCut, round-cutter, waiting-falls}
+use Rattle.division.specs.internal.Left.{instanceFrom, cutLeft, Cuttable, EnoughFor}
 use Rattle.division.specs.internal.Allocation.{withRound, allottedAll}
 use Rattle.division.specs.declared.dividing.Allocation.{Allocation}
 use Rattle.division.proofs.round.CutSets.{settled, settled-round}
@@ -25,14 +28,15 @@ use Rattle.division.proofs.rounds.Allotted.{stored-zeros, allotted-last
 use Rattle.division.proofs.dividing.divide_left.Reads as divide-left
 use Rattle.division.proofs.dividing.divide_left.Kinds as divide-left-kinds
 use Rattle.division.proofs.dividing.+divide_left.Lts-divide_left as lts
-use Rattle.division.proofs.dividing.cut_by_lowest.Reads as cut-by-lowest-reads
+use Rattle.division.proofs.dividing.cut_left.Reads as cut-left-reads
 use Rattle.division.proofs.dividing.hand_out.Reads as hand-out-reads
+use Rattle.serving.proofs.cutter_of.Reads as cutter-of-reads
 use Rattle.settling.proofs.settle_round.Reads as settle-round-reads
 use Rattle.division.proofs.dividing.+divide_left.{statement}
 use Rattle.division.proofs.dividing.+divide_left.Tie.{close}
 
 abbrev μ-divide-left : Measures 0 divide-left-kinds.ps ℕ
-μ-divide-left κs a = length (agentsIn (a .1 .1 .1 .1 .0))
+μ-divide-left κs a = length (agentsIn (a .1 .1 .1 .1 .1 .0))
 
 abbrev divide-left-at : ℕ → In 0 divide-left-kinds.ps
 divide-left-at t = and 0 divide-left-kinds.ps (is 0 divide-left-kinds.ps μ-divide-left t) divide-left.Pre
@@ -47,8 +51,10 @@ claims t = (
   settle-round-reads.Learnt,
   hand-out-reads.Asked,
   hand-out-reads.Learnt,
-  cut-by-lowest-reads.Asked,
-  cut-by-lowest-reads.Learnt,
+  cutter-of-reads.Asked,
+  cutter-of-reads.Learnt,
+  cut-left-reads.Asked,
+  cut-left-reads.Learnt,
   divide-left-below t,
   divide-left.Post,
 )
@@ -73,6 +79,13 @@ module _ (t : ℕ) where
   cuttable : (s : Start) → Cuttable (s .args .left) (s .args .set)
   cuttable s = s .pre .1 .0 .cuttable
 
+  -- the cutter and its partition are those of the definition's round
+  cutter-is : (s : Start) → s .args .cutter ≡ cutterOf (agentsIn (s .args .left))
+  cutter-is s = s .pre .1 .1
+
+  partition-is : (s : Start) → s .args .partition ≡ placed (cutterCut (instance s) (agentsIn (s .args .left)) (itemsOf (s .args .set)))
+  partition-is s = s .pre .1 .2 ∙ ap (λ cutter. placed (cutLeft (s .args .table) cutter (agentsIn (s .args .left)) (itemsOf (s .args .set)))) (cutter-is s)
+
   -- what the round settles is what the definition's does
   settled-is : (c : After-round) → c .settle-round .result ≡ settled (this-round (c .before))
   settled-is c =
@@ -80,7 +93,7 @@ module _ (t : ℕ) where
       let a = s .args in
       let ready = s .pre .1 .0 in
       c .settle-round .ensures
-      ∙ ap (settledBy (a .agents) (a .table) (a .shares) (a .left) (a .set)) (s .pre .1 .1)
+      ∙ ap₂ (λ cutter. settledBy (a .agents) (a .table) (a .shares) cutter (a .left) (a .set)) (cutter-is s) (partition-is s)
       ∙ settled-round (cuttable s) (a .agents) (ready .few) (a .table) (a .shares) (ready .small-shares)
 
   served-is : (c : After-round) → c .settle-round .result .served ≡ numbered (this-round (c .before) .served)
@@ -108,8 +121,8 @@ module _ (t : ℕ) where
       let sets = map setOf (r .bundles) in
       let allocated : List ℕ → Allocation = λ bundles. record { bundles = bundles; cutters = set (a .cutters) (a .rounds) (r .cutter); rounds = a .rounds + 1 } in
       c .hand-out .ensures
-      ∙ ap (λ served. withRound (at-round .settle-round .result .cutter) served (at-round .settle-round .result .sets) a) (served-listed at-round)
-      ∙ ap (λ q. withRound (q .cutter) (r .served) (q .sets) a) (settled-is at-round)
+      ∙ ap₂ (λ cutter served. withRound cutter served (at-round .settle-round .result .sets) a) (cutter-is s ∙ sym (round-cutter (instance s) (agentsIn (s .args .left)) (itemsOf (s .args .set)))) (served-listed at-round)
+      ∙ ap (λ q. withRound (r .cutter) (r .served) (q .sets) a) (settled-is at-round)
       ∙ ap allocated (stored-zeros (r .served) sets (mostAgents - length sets) (a .bundles))
 
   settle-round-requires : lts.Need-settle-round-requires (claims t) (divide-left-at t) divide-left.Post
@@ -156,12 +169,19 @@ module _ (t : ℕ) where
   next-agents : (c : After-round) → agentsIn (c .settle-round .result .waiting) ≡ this-round (c .before) .waiting
   next-agents c = ap agentsIn (waiting-is c) ∙ agentsIn-next (cuttable (c .before)) (instance (c .before))
 
-  cut-by-lowest-requires : lts.Need-cut-by-lowest-requires (claims t) (divide-left-at t) divide-left.Post
-  cut-by-lowest-requires c κs = (next-cuttable c, next-enough c)
+  cutter-of-requires : lts.Need-cutter-of-requires (claims t) (divide-left-at t) divide-left.Post
+  cutter-of-requires c κs = search needs
+
+  cut-left-requires : lts.Need-cut-left-requires (claims t) (divide-left-at t) divide-left.Post
+  cut-left-requires c κs =
+      let at-test = c .before in
+      let waiting = agentsIn (at-test .before .before .before .before .before .before .settle-round .result .waiting) in
+      (rw (c .cutter-of .ensures) (cutterOf-mem waiting (next-cuttable at-test .some-left)), next-cuttable at-test, next-enough at-test)
 
   divide-left-requires : lts.Need-divide-left-requires (claims t) (divide-left-at t) divide-left.Post
   divide-left-requires c κs =
-      let at-given = c .before .before in
+      let at-test = c .before .before in
+      let at-given = at-test .before in
       let at-round = at-given .before .before .before .before .before in
       let s = at-round .before in
       let ready = s .pre .1 .0 in
@@ -172,17 +192,18 @@ module _ (t : ℕ) where
           record {
             few = ready .few;
             small-shares = ready .small-shares;
-            cuttable = next-cuttable (c .before);
-            enough = next-enough (c .before);
+            cuttable = next-cuttable at-test;
+            enough = next-enough at-test;
             places = omega (arith, ready .places, next, fewer, ap (λ a. a .rounds) (given-is at-given));
           },
-          c .cut-by-lowest .ensures,
+          c .before .cutter-of .ensures,
+          c .cut-left .ensures,
         ),
       )
 
   returns-2 : lts.Need-returns-2 (claims t) (divide-left-at t) divide-left.Post
   returns-2 c =
-      let at-given = c .before .before .before in
+      let at-given = c .before .before .before .before in
       let at-round = at-given .before .before .before .before .before in
       let s = at-round .before in
       let r = this-round s in
@@ -200,6 +221,7 @@ pub +divide-left-spec : {M : Type 1} → statement M
     (slice-aggregate-hand-out t)
     (hand-out-requires t)
     (returns t)
-    (cut-by-lowest-requires t)
+    (cutter-of-requires t)
+    (cut-left-requires t)
     (divide-left-requires t)
     (returns-2 t)
