@@ -17,14 +17,14 @@ use Rattle.sheet.specs.Allocations.{Allocates}
 use Rattle.growth.specs.Growth.{growths}
 use Rattle.grades.specs.Scale.{passes, gradeByTable}
 use Rattle.grades.proofs.Scale.{passes-from-grade}
-use Rattle.margins.specs.Terms.{termsFor}
+use Rattle.terms.specs.Terms.{termsFor}
 use Rattle.rounds.specs.Division.{Division, standardInstance, allocation, divisionOf, divisionByRounds, answer}
 use Rattle.rounds.specs.Documented.{DividedAsDocumented}
 use Rattle.division.specs.Outcome.{outcome}
 use Rattle.division.specs.declared.Answer.the-variants.{Divided}
 use Rattle.division.specs.declared.Outcome.{Outcome}
 use Rattle.division.specs.Promise.{isDivided, isDivision, bundlesIn, allAgents, satisfiedAgents, Promised}
-use Rattle.rounds.proofs.density.Terms.{termsFor-allowed}
+use Rattle.terms.proofs.Allowed.{termsFor-at-most-standard}
 use Rattle.rounds.proofs.Allocation.{length-allocation, allocation-sublist, holds-promised, allocation-allocates}
 use Rattle.rounds.proofs.Answers.{answer-cases, answer-within-limits, answer-refused-14, same-answer-with-any-allowance}
 use Rattle.rounds.proofs.DividedAsDocumented.{answer-as-documented}
@@ -46,11 +46,11 @@ module _ (n m : ℕ) (table : List (List ℕ)) (allowance : ℕ) where
   unfolding termsFor
   all-satisfied =
       rw (length-allocation n m (termsFor n) table)
-      (sym (filter-all _ (range 1 n) (holds-promised n m (termsFor n) table (termsFor-allowed n))))
+      (sym (filter-all _ (range 1 n) (holds-promised n m (termsFor n) table (termsFor-at-most-standard n))))
 
   -- each item is in one bundle
   all-allocated : 1 ≤ n → Allocates n m bundles
-  all-allocated = allocation-allocates n m (termsFor n) table (termsFor-allowed n)
+  all-allocated = allocation-allocates n m (termsFor n) table (termsFor-at-most-standard n)
 
   divided-bundles : m ≤ mostItems → bundlesIn n (outcome (accepted (divisionByRounds n m table))) ≡ bundles
   unfolding divisionOf

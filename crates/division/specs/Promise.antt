@@ -10,7 +10,7 @@ use lib.ListN.{length, take}
 use Rattle.lists.specs.Lists.{range, zeros, filter, nth}
 use Rattle.sheet.specs.Limits.{mostAgents, mostItems}
 use Rattle.sheet.specs.Sets.{itemsOf}
-use Rattle.margins.specs.Terms.{largestOdd}
+use Rattle.terms.specs.Terms.{largestOdd}
 use Rattle.sheet.specs.Valuations.{value}
 use Rattle.sheet.specs.Tables.{valuation}
 use Rattle.sheet.specs.Allocations.{Allocates}

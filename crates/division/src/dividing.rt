@@ -6,7 +6,7 @@ ghost use Rattle.lists.specs.Lists.{Within};
 ghost use Rattle.sheet.specs.Limits.{mostAgents};
 ghost use Rattle.sheet.specs.Sets.{itemsOf};
 ghost use Rattle.cut.specs.Outcome.{placed};
-ghost use Rattle.margins.specs.Terms.{termsFor};
+ghost use Rattle.terms.specs.Terms.{termsFor};
 ghost use Rattle.matching.specs.Matching.{cutterOf};
 ghost use Rattle.serving.specs.Serving.{agentsIn};
 ghost use Rattle.division.specs.internal.Allocation.{nothing, stored, withRound, allottedAll};

@@ -10,7 +10,7 @@ use Rattle.lists.proofs.Cases.{lt-or-ge}
 use Rattle.lists.proofs.ranges.RangeSublists.{range-sublist-rising}
 use Rattle.sheet.specs.Limits.{CountsWithin}
 use Rattle.sheet.specs.Answers.{accepted}
-use Rattle.margins.specs.Terms.{termsFor}
+use Rattle.terms.specs.Terms.{termsFor}
 use Rattle.rounds.specs.Division.{Division, divisionOf, answer}
 use Rattle.rounds.proofs.Allocation.{allocation-sublist}
 use Rattle.rounds.proofs.Answers.{answer-accepted}

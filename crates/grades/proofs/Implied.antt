@@ -20,9 +20,9 @@ use Rattle.sheet.specs.Allocations.{Allocates}
 use Rattle.sheet.proofs.valuing.Tables.{valuation-profile}
 use Rattle.maximin.proofs.Laws.{shares-le-total}
 use Rattle.shares.proofs.Profile.{nth-shares}
-use Rattle.margins.specs.Terms.{termsFor}
+use Rattle.terms.specs.Terms.{termsFor}
 use Rattle.margins.specs.Margins.{marginsOf, noneNegative}
-use Rattle.margins.proofs.TermsFor.{top-le-bottom}
+use Rattle.terms.proofs.TermsFor.{top-le-bottom}
 use Rattle.grades.specs.Grade.{ownValues, valueTo, envyFree, proportional, maximinFair}
 use Rattle.grades.specs.Scale.{sharesOf}
 use Rattle.grades.proofs.NoneNegative.{noneNegative-own}

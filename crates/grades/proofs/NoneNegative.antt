@@ -8,7 +8,7 @@ use lib.Signed.{nonNeg}
 use Rattle.lists.specs.Lists.{range, nth, all}
 use Rattle.lists.proofs.ranges.Ranges.{nth-map-range}
 use Rattle.lists.proofs.members.Tests.{all-cong}
-use Rattle.margins.specs.declared.Terms.{Terms}
+use Rattle.terms.specs.declared.Terms.{Terms}
 use Rattle.margins.specs.Margins.{margin, marginsOf, noneNegative}
 use Rattle.margins.proofs.Signs.{nonNeg-margin}
 use Rattle.grades.specs.Grade.{ownValues, valueTo}

@@ -6,7 +6,7 @@ use lib.IntN.{ℤ}
 use Rattle.lists.specs.Lists.{nth}
 use Rattle.sheet.specs.Tables.{profile}
 use Rattle.maximin.specs.Share.{maximinShare}
-use Rattle.margins.specs.Terms.{termsFor}
+use Rattle.terms.specs.Terms.{termsFor}
 use Rattle.margins.specs.Margins.{marginsOf, noneNegative}
 use Rattle.grades.specs.Grade.{ownValues, envyFree, proportional, maximinFair, grade}
 

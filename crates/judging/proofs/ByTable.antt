@@ -18,7 +18,7 @@ use Rattle.sheet.proofs.Limits.{counts-in-use}
 use Rattle.shares.specs.Known.{SharesIn}
 use Rattle.shares.proofs.Profile.{nth-shares}
 use Rattle.shares.proofs.Outcomes.{nth-shares-in}
-use Rattle.margins.specs.Terms.{termsFor}
+use Rattle.terms.specs.Terms.{termsFor}
 use Rattle.margins.specs.Margins.{margin, marginWithin, marginsStored}
 use Rattle.grades.specs.Grade.{ownValues, valueTo, worthsIn, gradeIn}
 use Rattle.grades.specs.Scale.{sharesOf, marginsByTable, gradeByTable}

@@ -1,4 +1,3 @@
--- Laws of the terms for a number of agents, of the sign and the size of a margin, and of margins in their places.
-pub mod TermsFor
+-- Laws of the sign and the size of a margin, and of margins in their places.
 pub mod Signs
 pub mod Stored

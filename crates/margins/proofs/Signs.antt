@@ -9,10 +9,10 @@ use lib.IntN.{pos, negsuc, _-ℤ_}
 use lib.Signed.{mag, nonNeg}
 use borrow.Author.Tests.{ltb-true, ltb-false, le-leb, lt-leb}
 use Rattle.sheet.specs.Limits.{mostAgents, greatestSum}
-use Rattle.margins.specs.Terms.{largestOdd, termsFor}
+use Rattle.terms.specs.Terms.{largestOdd, termsFor}
 use Rattle.margins.specs.Margins.{margin, greatestMargin}
-use Rattle.margins.specs.declared.Terms.{Terms}
-use Rattle.margins.proofs.TermsFor.{top-small, bottom-small}
+use Rattle.terms.specs.declared.Terms.{Terms}
+use Rattle.terms.proofs.TermsFor.{top-small, bottom-small}
 
 -- a difference of numbers below H is below H without its sign
 size-by : (a b H : ℕ) → a < H → b ≤ H → (less : Bool) → (less ≡ true → a < b) → mag (cond less (negsuc (b - suc a)) (pos (a - b))) < H

@@ -8,7 +8,7 @@ use Rattle.lists.specs.Lists.{range, nth}
 use Rattle.lists.proofs.places.Places.{nth-padded-range}
 use Rattle.sheet.specs.Limits.{mostAgents, greatestSum}
 use Rattle.sheet.specs.Amounts.{SmallAmounts}
-use Rattle.margins.specs.Terms.{termsFor}
+use Rattle.terms.specs.Terms.{termsFor}
 use Rattle.margins.specs.Margins.{margin, marginWithin, marginsStored}
 
 -- amounts that are not above the greatest sum are not cut

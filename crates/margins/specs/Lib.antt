@@ -1,3 +1,2 @@
--- The part of its maximin share that each agent is promised, and the margin of its bundle over that.
-pub mod Terms
+-- The margin of a bundle over the part of the share that is promised.
 pub mod Margins

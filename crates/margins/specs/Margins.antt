@@ -6,8 +6,8 @@ use lib.IntN.{ℤ, pos, _-ℤ_}
 use lib.Signed.{nonNeg}
 use Rattle.lists.specs.Lists.{range, nth, all, padded}
 use Rattle.sheet.specs.Limits.{mostAgents, greatestSum}
-use Rattle.margins.specs.Terms.{termsFor}
-use Rattle.margins.specs.declared.Terms.{Terms}
+use Rattle.terms.specs.Terms.{termsFor}
+use Rattle.terms.specs.declared.Terms.{Terms}
 
 -- "bottom × worth minus top × share", a whole number that may be below zero
 unfoldable pub margin : Terms → ℕ → ℕ → ℤ

@@ -1,34 +1,15 @@
-// The part of its maximin share that each agent is promised, and by how much a bundle is worth more or less than that (the margin).
+// By how much a bundle is worth more or less than the part of its maximin share that its agent is promised (the margin).
 ghost use mathlib.Core.Path.{_≡_};
 ghost use Prim.Native.Nat.{min};
 ghost use Rattle.sheet.specs.Limits.{mostAgents, greatestSum};
-ghost use Rattle.margins.specs.Terms.{termsFor};
 ghost use Rattle.margins.specs.Margins.{marginWithin, marginsStored, noneNegative};
 use sheet::Sheet;
 use sheet::amounts::Amounts;
 use sheet::lesser;
-
-// "top" and "bottom" of document 01: the fraction of its maximin share that each agent is promised.
-pub struct Terms {
-    pub top: u64,
-    pub bottom: u64,
-}
+use terms::terms_for;
 
 // A margin for each agent.
 pub type Margins = [i64; Sheet::AGENTS];
-
-// The terms for a number of agents, which is cut to the limit of a sheet; none counts as one.
-pub fn terms_for(agents: usize) -> Terms
-    ensures { λ r. ⌜ r ≡ termsFor (min agents mostAgents) ⌝ }
-{
-    let counted = lesser(agents, Sheet::AGENTS);
-    let before = counted - lesser(counted, 1);
-    let largest_odd = 2 * (before as u64 / 2) + 1;
-    Terms {
-        top: 2 * largest_odd,
-        bottom: 3 * largest_odd - 1,
-    }
-}
 
 // An amount, or the greatest sum where it is above that.
 fn limited(amount: u64) -> u64

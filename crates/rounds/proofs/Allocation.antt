@@ -19,12 +19,12 @@ use Rattle.sheet.specs.Allocations.{Allocates}
 use Rattle.sheet.proofs.valuing.Tables.{value-profile}
 use Rattle.shares.specs.Shares.{shareOf}
 use Rattle.shares.proofs.Profile.{nth-shares, shareOf-profile}
-use Rattle.margins.specs.declared.Terms.{Terms}
+use Rattle.terms.specs.declared.Terms.{Terms}
 use Rattle.margins.specs.Margins.{noneNegative}
 use Rattle.grades.proofs.NoneNegative.{noneNegative-own}
 use Rattle.rounds.specs.Round.{Instance, suits, Round, round, held}
 use Rattle.rounds.specs.Division.{instanceOf, allRounds, allocation, allocationMargins}
-use Rattle.rounds.proofs.density.Terms.{Allowed}
+use Rattle.terms.specs.Allowed.{AtMostStandard}
 use Rattle.rounds.proofs.round.Held.{allSuit-length}
 use Rattle.rounds.proofs.round.Invariant.{Sound, left-all, round-suits}
 use Rattle.rounds.proofs.round.Rounds.{held-sublist, rounds-each, held-suits, held-all}
@@ -49,7 +49,7 @@ module _ (n m : ℕ) (terms : Terms) (table : List (List ℕ)) where
       let (agent, i, e) = Memᴰ·of-map holds (range 1 n) mem in
       rw (← e) (held-sublist G n (range 1 n) (range 1 m) agent)
 
-  module _ (allowed : Allowed n terms) where
+  module _ (allowed : AtMostStandard n terms) where
     pub sound : Sound n m G
     sound = record { allowed = allowed; own-shares = λ agent i. nth-shares n m table i ∙ sym (shareOf-profile n m table i) }
 

@@ -12,12 +12,13 @@ use Rattle.sheet.specs.Tables.{valuation, allValues, profile}
 use Rattle.sheet.proofs.valuing.Tables.{length-profile}
 use Rattle.maximin.specs.Share.{maximinShare, maximinPartition}
 use Rattle.shares.proofs.Profile.{nth-shares, nth-cuts}
-use Rattle.margins.specs.declared.Terms.{Terms}
-use Rattle.margins.specs.Terms.{termsFor}
+use Rattle.terms.specs.declared.Terms.{Terms}
+use Rattle.terms.specs.Terms.{termsFor}
 use Rattle.rounds.specs.Round.{Instance, Round, held}
 use Rattle.rounds.specs.Division.{Division, instanceOf, allRounds, divisionOf, answer}
 use Rattle.rounds.specs.Documented.{ShareAndCut, DividedAsDocumented}
-use Rattle.rounds.proofs.density.Terms.{Allowed, termsFor-allowed}
+use Rattle.terms.specs.Allowed.{AtMostStandard}
+use Rattle.terms.proofs.Allowed.{termsFor-at-most-standard}
 use Rattle.rounds.proofs.round.Invariant.{left-all}
 use Rattle.rounds.proofs.round.Served.{served-among, served-in-one-round, held-at-place}
 use Rattle.rounds.proofs.Allocation.{sound, length-allocation}
@@ -25,7 +26,7 @@ use Rattle.rounds.proofs.Answers.{answer-accepted}
 use Rattle.rounds.proofs.EveryRound.{share-and-cut-as-documented, all-rounds-follow-on, every-round-as-documented}
 
 -- the division by the rounds: any table, and any terms that promise no more than document 01
-module _ (n m : ℕ) (terms : Terms) (table : List (List ℕ)) (allowed : Allowed n terms) where
+module _ (n m : ℕ) (terms : Terms) (table : List (List ℕ)) (allowed : AtMostStandard n terms) where
   abbrev G : Instance
   G = instanceOf n terms (profile n m table)
 
@@ -62,4 +63,4 @@ module _ (n m : ℕ) (terms : Terms) (table : List (List ℕ)) (allowed : Allowe
 pub answer-as-documented : (n m : ℕ) (table : List (List ℕ)) (allowance : ℕ) (d : Division) → answer n m table allowance ≡ accepted d
     → DividedAsDocumented n m (termsFor n) table d
 answer-as-documented n m table allowance d divided =
-    rw (answer-accepted n m table allowance d divided .0) (rounds-divide-as-documented n m (termsFor n) table (termsFor-allowed n))
+    rw (answer-accepted n m table allowance d divided .0) (rounds-divide-as-documented n m (termsFor n) table (termsFor-at-most-standard n))

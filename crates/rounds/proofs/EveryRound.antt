@@ -18,11 +18,11 @@ use Rattle.matching.specs.Matching.{cutterOf, chosenOf}
 use Rattle.matching.proofs.Cutter.{cutterOf-mem, cutterOf-lowest}
 use Rattle.matching.proofs.Serving.{waitingOf-largest, cutter-served}
 use Rattle.matching.proofs.Ties.{waitingOf-first, chosenOf-first}
-use Rattle.margins.specs.declared.Terms.{Terms}
+use Rattle.terms.specs.declared.Terms.{Terms}
 use Rattle.rounds.specs.Round.{Instance, Round, round, rounds}
 use Rattle.rounds.specs.Documented.{ShareAndCut, RoundAsDocumented, FollowOn}
 use Rattle.rounds.specs.Division.{instanceOf, allRounds}
-use Rattle.rounds.proofs.density.Terms.{Allowed}
+use Rattle.terms.specs.Allowed.{AtMostStandard}
 use Rattle.rounds.proofs.round.Parts.{cutterCut, cutSuits, round-begins, waiting-falls}
 use Rattle.rounds.proofs.round.Invariant.{Sound, Left, left-all, matched}
 use Rattle.rounds.proofs.round.Rounds.{rounds-each}
@@ -96,7 +96,7 @@ module _ (n m : ℕ) (terms : Terms) (table : List (List ℕ)) where
   pub all-rounds-follow-on : FollowOn (range 1 n) (range 1 m) (allRounds n m G)
   all-rounds-follow-on = rounds-follow-on G n (range 1 n) (range 1 m) (le-of-eq (length-range 1 n))
 
-  pub every-round-as-documented : Allowed n terms → (r : Round) → Mem r (allRounds n m G) → RoundAsDocumented G r
+  pub every-round-as-documented : AtMostStandard n terms → (r : Round) → Mem r (allRounds n m G) → RoundAsDocumented G r
   every-round-as-documented allowed =
       let is-sound = sound n m terms table allowed in
       rounds-each is-sound (RoundAsDocumented G) (λ agents items. round-as-documented is-sound) n (range 1 n) (range 1 m) (left-all n m G)

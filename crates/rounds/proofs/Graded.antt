@@ -9,12 +9,12 @@ use borrow.Author.Tests.{leb-true}
 use Rattle.sheet.specs.Limits.{CountsWithin}
 use Rattle.sheet.specs.Answers.{accepted}
 use Rattle.sheet.specs.Allocations.{Allocates}
-use Rattle.margins.specs.Terms.{termsFor}
+use Rattle.terms.specs.Terms.{termsFor}
 use Rattle.margins.specs.Margins.{noneNegative}
 use Rattle.grades.specs.Scale.{passes}
 use Rattle.grades.proofs.Scale.{passes-from-grade}
 use Rattle.rounds.specs.Division.{Division, divisionOf, answer}
-use Rattle.rounds.proofs.density.Terms.{termsFor-allowed}
+use Rattle.terms.proofs.Allowed.{termsFor-at-most-standard}
 use Rattle.rounds.proofs.Allocation.{allocation-noneNegative, allocation-allocates}
 use Rattle.rounds.proofs.Answers.{answer-accepted}
 
@@ -26,7 +26,7 @@ module _ (n m : ℕ) (table : List (List ℕ)) (allowance : ℕ) (d : Division) 
   -- each item is in one bundle
   pub division-allocates : Allocates n m (d .bundles)
   unfolding divisionOf
-  division-allocates = rw (answer-accepted n m table allowance d divided .0) (allocation-allocates n m (termsFor n) table (termsFor-allowed n) (within .some))
+  division-allocates = rw (answer-accepted n m table allowance d divided .0) (allocation-allocates n m (termsFor n) table (termsFor-at-most-standard n) (within .some))
 
   -- it passes the test for g exactly where its grade is at most g
   pub division-passes : (g : ℕ) → 1 ≤ g → passes n m table (d .bundles) g ≡ leb (d .grade) g
@@ -36,11 +36,11 @@ module _ (n m : ℕ) (table : List (List ℕ)) (allowance : ℕ) (d : Division) 
   -- "every margin to be zero or more"
   pub no-margin-negative : noneNegative n (d .margins) ≡ true
   unfolding divisionOf
-  no-margin-negative = rw (answer-accepted n m table allowance d divided .0) (allocation-noneNegative n m (termsFor n) table (termsFor-allowed n))
+  no-margin-negative = rw (answer-accepted n m table allowance d divided .0) (allocation-noneNegative n m (termsFor n) table (termsFor-at-most-standard n))
 
   passes-4 : passes n m table (d .bundles) 4 ≡ true
   unfolding divisionOf
-  passes-4 = rw (answer-accepted n m table allowance d divided .0) (allocation-noneNegative n m (termsFor n) table (termsFor-allowed n))
+  passes-4 = rw (answer-accepted n m table allowance d divided .0) (allocation-noneNegative n m (termsFor n) table (termsFor-at-most-standard n))
 
   -- demand 3 leaves no division of the box "the rest"
   pub never-graded-5 : d .grade ≤ 4

@@ -13,7 +13,7 @@ use Rattle.lists.proofs.places.Places.{nth-next}
 use Rattle.lists.proofs.places.Entries.{mem-place, same-at-places}
 use Rattle.lists.proofs.members.Counting.{any-mem, counted-any}
 use Rattle.lists.proofs.members.Distinct.{elem-mem}
-use Rattle.margins.specs.declared.Terms.{Terms}
+use Rattle.terms.specs.declared.Terms.{Terms}
 use Rattle.rounds.specs.Round.{Instance, Round}
 use Rattle.rounds.specs.Division.{Division}
 use Rattle.rounds.specs.Documented.{ShareAndCut, valuesLeft, TightSet, Serving, RoundAsDocumented, FollowOn, instanceIn, DividedAsDocumented}

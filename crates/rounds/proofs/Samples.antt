@@ -11,7 +11,7 @@ use Rattle.sheet.specs.Sets.{itemsOf}
 use Rattle.sheet.specs.Valuations.{valuesOf, value}
 use Rattle.maximin.specs.Share.{maximinShare, maximinPartition}
 use Rattle.cut.specs.Outcome.{Found, found, cutting}
-use Rattle.margins.specs.Terms.{largestOdd, termsFor}
+use Rattle.terms.specs.Terms.{largestOdd, termsFor}
 use Rattle.margins.specs.Margins.{margin}
 use Rattle.sheet.specs.Tables.{valuation, profile}
 use Rattle.matching.specs.Matching.{waitingSet, matching}

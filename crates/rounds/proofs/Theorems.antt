@@ -11,11 +11,11 @@ use Rattle.sheet.specs.Answers.{accepted}
 use Rattle.growth.specs.Growth.{growths}
 use Rattle.growth.proofs.Growths.{fewer-growths}
 use Rattle.shares.specs.Shares.{sharing, sharingWithin}
-use Rattle.margins.specs.Terms.{termsFor}
+use Rattle.terms.specs.Terms.{termsFor}
 use Rattle.sheet.specs.Tables.{AgreeInUse}
 use Rattle.rounds.specs.Round.{Round}
 use Rattle.rounds.specs.Division.{Division, standardInstance, allRounds, answer}
-use Rattle.rounds.proofs.density.Terms.{termsFor-allowed}
+use Rattle.terms.proofs.Allowed.{termsFor-at-most-standard}
 use Rattle.sheet.proofs.valuing.Tables.{profile-agree}
 use Rattle.rounds.proofs.round.Parts.{round-begins}
 use Rattle.rounds.proofs.round.Invariant.{left-all}
@@ -25,14 +25,14 @@ use Rattle.rounds.proofs.Answers.{answer-accepted}
 
 -- serving never fails: in every round there is a bundle for each agent served
 pub every-round-serves : (n m : ℕ) (table : List (List ℕ)) (r : Round) → Mem r (allRounds n m (standardInstance n m table)) → length (r .bundles) ≡ length (r .served)
-every-round-serves n m table = served-each n m (termsFor n) table (termsFor-allowed n)
+every-round-serves n m table = served-each n m (termsFor n) table (termsFor-at-most-standard n)
 
 -- the agents left and the items left in a round have no more growth partitions than all agents and all items
 pub no-round-has-more-growths : (n m : ℕ) (table : List (List ℕ)) (r : Round) → Mem r (allRounds n m (standardInstance n m table))
     → growths (length (r .agents)) (length (r .items)) ≤ growths n m
 no-round-has-more-growths n m table =
     let G = standardInstance n m table in
-    rounds-each (sound n m (termsFor n) table (termsFor-allowed n)) (λ r. growths (length (r .agents)) (length (r .items)) ≤ growths n m)
+    rounds-each (sound n m (termsFor n) table (termsFor-at-most-standard n)) (λ r. growths (length (r .agents)) (length (r .items)) ≤ growths n m)
     (λ agents items some state.
     rw (round-begins G agents items .0, round-begins G agents items .1)
     (fewer-growths (length agents) n (length items) m some

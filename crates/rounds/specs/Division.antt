@@ -6,8 +6,8 @@ use Rattle.lists.specs.Lists.{range}
 use Rattle.sheet.specs.Answers.{Answer, accepted, andThen}
 use Rattle.sheet.specs.Tables.{profile}
 use Rattle.maximin.specs.Share.{maximinShare, maximinPartition}
-use Rattle.margins.specs.declared.Terms.{Terms}
-use Rattle.margins.specs.Terms.{termsFor}
+use Rattle.terms.specs.declared.Terms.{Terms}
+use Rattle.terms.specs.Terms.{termsFor}
 use Rattle.margins.specs.Margins.{marginsOf}
 use Rattle.rounds.specs.Round.{Instance, Round, rounds, held}
 use Rattle.grades.specs.Grade.{ownValues, grade}

@@ -11,7 +11,7 @@ use Rattle.lists.specs.Dictionary.{Precedes}
 use Rattle.sheet.specs.Valuations.{itemValue}
 use Rattle.sheet.specs.Tables.{valuation, allValues, profile}
 use Rattle.maximin.specs.Share.{leastBundle}
-use Rattle.margins.specs.declared.Terms.{Terms}
+use Rattle.terms.specs.declared.Terms.{Terms}
 use Rattle.matching.specs.Matching.{without, servedAgents, neighbours, freeBundles, Matched, bundleNumbers}
 use Rattle.bundling.specs.Bundles.{itemsIn, bundle}
 use Rattle.rounds.specs.Round.{Instance, suitsIn, Round}

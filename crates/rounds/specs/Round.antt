@@ -9,7 +9,7 @@ use Rattle.lists.specs.Lists.{nth, elem}
 use Rattle.sheet.specs.Valuations.{itemValue, value}
 use Rattle.bundling.specs.Bundles.{itemsIn, bundle}
 use Rattle.maximin.specs.Share.{maximinPartition}
-use Rattle.margins.specs.declared.Terms.{Terms}
+use Rattle.terms.specs.declared.Terms.{Terms}
 use Rattle.sheet.specs.Tables.{valuation}
 use Rattle.matching.specs.Matching.{cutterOf, waitingOf, servedOf, chosenOf}
 

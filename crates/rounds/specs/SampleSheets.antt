@@ -6,7 +6,7 @@ use mathlib.Core.List.{List, [], _∷_}
 use Prim.Native.Nat.{ℕ}
 use lib.IntN.{pos}
 use Rattle.sheet.specs.Answers.{Answer, accepted}
-use Rattle.margins.specs.declared.Terms.{Terms}
+use Rattle.terms.specs.declared.Terms.{Terms}
 use Rattle.cut.specs.Outcome.{Found, shared, cutting}
 use Rattle.cut.specs.SampleCuts.{Sample as CutSample}
 use Rattle.rounds.specs.Division.{Division, answer}

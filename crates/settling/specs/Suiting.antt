@@ -8,7 +8,7 @@ use Rattle.sheet.specs.Limits.{mostAgents, greatestSum}
 use Rattle.sheet.specs.Sets.{itemsOf}
 use Rattle.sheet.specs.Valuations.{value}
 use Rattle.sheet.specs.Tables.{valuation}
-use Rattle.margins.specs.Terms.{termsFor}
+use Rattle.terms.specs.Terms.{termsFor}
 
 -- "A pile suits a yard when bottom × worth is at least top × that yard's maximin share": the items of a set, and an agent with this valuation
 -- and share; the number of agents and the share are cut to the limits of a sheet

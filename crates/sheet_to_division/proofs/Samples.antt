@@ -9,7 +9,7 @@ use Rattle.reading.specs.SampleTexts.{sheetA}
 use Rattle.reading.proofs.SheetA.{sheet-a-read}
 use Rattle.maximin.specs.Share.{maximinShare, maximinPartition}
 use Rattle.matching.specs.Matching.{waitingSet, matching}
-use Rattle.margins.specs.Terms.{largestOdd, termsFor}
+use Rattle.terms.specs.Terms.{largestOdd, termsFor}
 use Rattle.rounds.specs.Round.{round, rounds, held}
 use Rattle.grades.specs.Grade.{envyFree, proportional, maximinFair, grade}
 use Rattle.growth.specs.Growth.{growths}

@@ -13,7 +13,7 @@ use Rattle.sheet.specs.Answers.{Answer, refused, accepted, after}
 use Rattle.writing.specs.Filled.{filling, filled}
 use Rattle.writing.specs.Answered.{answered}
 use Rattle.writing.specs.declared.Answer as declared
-use Rattle.margins.specs.Terms.{termsFor}
+use Rattle.terms.specs.Terms.{termsFor}
 use Rattle.margins.specs.Margins.{margin}
 use Rattle.grades.specs.Grade.{ownValues}
 use Rattle.grades.specs.Scale.{sharesOf}

@@ -17,9 +17,9 @@ use Rattle.sheet.specs.Answers.{accepted, andThen}
 use Rattle.sheet.proofs.valuing.Tables.{valuation-profile}
 use Rattle.shares.proofs.Profile.{nth-shares}
 use Rattle.writing.specs.Filled.{filling}
-use Rattle.margins.specs.Terms.{termsFor}
+use Rattle.terms.specs.Terms.{termsFor}
 use Rattle.margins.specs.Margins.{margin}
-use Rattle.margins.proofs.TermsFor.{top-small, bottom-small}
+use Rattle.terms.proofs.TermsFor.{top-small, bottom-small}
 use Rattle.margins.proofs.Signs.{difference-small}
 use Rattle.grades.specs.Grade.{ownValues}
 use Rattle.grades.specs.Scale.{sharesOf}

@@ -18,7 +18,7 @@ use Rattle.sheet_lines.specs.Kept.{tableOf}
 use Rattle.reading.specs.Reading.{Contents, contentsOf, readingFront}
 use Rattle.maximin.specs.Share.{maximinShare, maximinPartition}
 use Rattle.shares.specs.Shares.{sharesCovered, sharing}
-use Rattle.margins.specs.Terms.{largestOdd, termsFor}
+use Rattle.terms.specs.Terms.{largestOdd, termsFor}
 use Rattle.margins.specs.Margins.{margin}
 use Rattle.grades.specs.Grade.{envyFree, proportional, maximinFair, grade}
 use Rattle.division_reading.specs.Stated.{StatedLine, Stated}

@@ -9,7 +9,7 @@ use Rattle.sheet.specs.Tables.{profile}
 use Rattle.sheet.specs.Answers.{Answer, refused, accepted}
 use Rattle.maximin.specs.Share.{maximinShare, maximinPartition}
 use Rattle.shares.specs.Shares.{sharesCovered, sharing}
-use Rattle.margins.specs.Terms.{largestOdd, termsFor}
+use Rattle.terms.specs.Terms.{largestOdd, termsFor}
 use Rattle.margins.specs.Margins.{margin}
 use Rattle.grades.specs.Grade.{envyFree, proportional, maximinFair, grade}
 use Rattle.sheet.specs.Sets.{itemsOf}

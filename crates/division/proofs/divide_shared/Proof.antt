@@ -17,7 +17,7 @@ use Rattle.grades.specs.Grade.{gradeIn}
 use Rattle.matching.specs.Matching.{cutterOf}
 use Rattle.matching.proofs.Cutter.{cutterOf-mem}
 use Rattle.serving.specs.Serving.{agentsIn}
-use Rattle.margins.specs.Terms.{termsFor}
+use Rattle.terms.specs.Terms.{termsFor}
 use Rattle.division.specs.internal.Left.{instanceFrom, Ready}
 use Rattle.division.specs.internal.Allocation.{nothing, allottedAll}
 use Rattle.division.specs.declared.dividing.Allocation.{Allocation}

@@ -33,7 +33,7 @@ use Rattle.matching.proofs.Parts.{chosenOf-distinct, waitingOf-cong, servedOf-c
 use Rattle.serving.specs.Serving.{agentsIn}
 use Rattle.serving.proofs.round.AgentsLeft.{agentsIn-sublist}
 use Rattle.serving.proofs.round.Parts.{chosen-within}
-use Rattle.margins.specs.Terms.{termsFor}
+use Rattle.terms.specs.Terms.{termsFor}
 use Rattle.rounds.specs.Round.{Instance, Round, round}
 use Rattle.rounds.proofs.round.Parts.{cutterCut, cutSuits}
 use Rattle.settling.specs.Suiting.{setSuits, suitsRow, suitsTable}

@@ -33,10 +33,10 @@ use Rattle.margins.proofs.Stored.{nth-marginsStored}
 use Rattle.grades.proofs.Grades.{grade-cong, gradeIn-within}
 use Rattle.serving.specs.Serving.{agentsIn}
 use Rattle.serving.proofs.round.AgentsLeft.{agentsIn-items}
-use Rattle.margins.specs.Terms.{termsFor}
+use Rattle.terms.specs.Terms.{termsFor}
 use Rattle.margins.specs.Margins.{margin, marginsStored}
 use Rattle.rounds.specs.Division.{standardInstance, allRounds, allocation, allocationMargins, divisionOf, divisionByRounds}
-use Rattle.rounds.proofs.density.Terms.{termsFor-allowed}
+use Rattle.terms.proofs.Allowed.{termsFor-at-most-standard}
 use Rattle.rounds.proofs.Allocation.{sound, allocation-sublist}
 use Rattle.division.specs.Outcome.{outcome}
 use Rattle.division.specs.internal.Left.{cutLeft, Ready}
@@ -129,7 +129,7 @@ module _ (n m : ℕ) (table : List (List ℕ)) (counts : CountsWithin n m) where
   pub allotted-accepted : let a = allottedAll (placedInstance n m table counts) (agentsIn allAgents) (itemsOf allItems) nothing in
       (a .bundles ≡ placedSets) × (a .cutters ≡ placedCutters)
   allotted-accepted =
-      let s = sound n m (termsFor n) table (termsFor-allowed n) in
+      let s = sound n m (termsFor n) table (termsFor-at-most-standard n) in
       rw (agentsIn-all, itemsOf-all, length-range 1 n, rounds-standard n m table counts) (allotted-bundles s (counts .few), allotted-cutters-all s (counts .few))
 
   in-use : InUse n m

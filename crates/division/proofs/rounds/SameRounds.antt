@@ -27,8 +27,8 @@ use Rattle.matching.specs.Matching.{servedAgents, cutterOf, bundleNumbers, wait
 use Rattle.matching.proofs.Cutter.{cutterOf-mem}
 use Rattle.matching.proofs.Parts.{waitingOf-cong, chosenOf-cong}
 use Rattle.matching.proofs.Congruence.{Agree}
-use Rattle.margins.specs.Terms.{termsFor}
-use Rattle.margins.specs.declared.Terms.{Terms}
+use Rattle.terms.specs.Terms.{termsFor}
+use Rattle.terms.specs.declared.Terms.{Terms}
 use Rattle.rounds.specs.Round.{Round, Instance, suits, round, rounds}
 use Rattle.rounds.specs.Division.{standardInstance, allRounds}
 use Rattle.rounds.proofs.round.Parts.{cutterCut, cutSuits, waiting-sub, left-sub}

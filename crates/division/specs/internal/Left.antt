@@ -11,7 +11,7 @@ use Rattle.growth.specs.Growth.{growths}
 use Rattle.maximin.specs.Share.{maximinPartition}
 use Rattle.serving.specs.Serving.{agentsIn}
 use Rattle.rounds.specs.Round.{Instance}
-use Rattle.margins.specs.declared.Terms.{Terms}
+use Rattle.terms.specs.declared.Terms.{Terms}
 use Rattle.division.specs.declared.dividing.Allocation.{Allocation}
 
 -- the instance that the code hands from round to round

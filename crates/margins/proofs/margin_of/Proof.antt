@@ -8,9 +8,9 @@ use mir.Val.{SFits, toZ}
 use mir.ValLaws.{toZ-pos, toZ-ofZ}
 use borrow.Author.Needs.{needs}
 use Rattle.sheet.specs.Limits.{mostAgents, greatestSum}
-use Rattle.margins.specs.Terms.{termsFor}
+use Rattle.terms.specs.Terms.{termsFor}
 use Rattle.margins.specs.Margins.{margin}
-use Rattle.margins.specs.declared.Terms.{Terms}
+use Rattle.terms.specs.declared.Terms.{Terms}
 use Rattle.margins.proofs.Signs.{difference-small, greatestMargin-small, held-small, promised-small}
 use Rattle.margins.proofs.margin_of.Statement.{statement}
 use Rattle.margins.proofs.margin_of.Tie as tie

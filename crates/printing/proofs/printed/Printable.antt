@@ -17,7 +17,7 @@ use Rattle.maximin.proofs.Laws.{maximinPartition-within}
 use Rattle.shares.proofs.Profile.{nth-cuts}
 use Rattle.grades.proofs.Grades.{grade-bounds}
 use Rattle.matching.proofs.Cutter.{cutterOf-mem}
-use Rattle.margins.specs.Terms.{termsFor}
+use Rattle.terms.specs.Terms.{termsFor}
 use Rattle.rounds.specs.Round.{Instance, Round, round, rounds, held}
 use Rattle.rounds.specs.Division.{Division, standardInstance, allRounds, allocation, allocationMargins, divisionOf, divisionByRounds}
 use Rattle.rounds.proofs.round.Parts.{waiting-sub}

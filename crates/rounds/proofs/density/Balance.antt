@@ -11,11 +11,12 @@ use Rattle.lists.proofs.ranges.Ranges.{range-bounds}
 use Rattle.lists.proofs.sums.LeastOf.{leastOf-le, leastOf-attained}
 use Rattle.maximin.specs.Share.{bundleValue, leastBundle, maximinShare, maximinPartition}
 use Rattle.maximin.proofs.Laws.{leastBundle-le-maximinShare, maximinPartition-within, leastBundle-maximinPartition}
-use Rattle.margins.specs.declared.Terms.{Terms}
+use Rattle.terms.specs.declared.Terms.{Terms}
 use Rattle.rounds.proofs.density.Deficit.{deficit, deficit-le-total}
 use Rattle.rounds.proofs.density.Partition.{IsPartition, empty, place, isPartition-length, isPartition-within, within-isPartition}
 use Rattle.rounds.proofs.density.Regroup.{bundleValues, length-bundleValues, refines-bundleValues, total-bundleValues-le}
-use Rattle.rounds.proofs.density.Terms.{top, bottom, Reaches, reaches-mono, Allowed, reaches-terms, supply-terms}
+use Rattle.terms.specs.Allowed.{AtMostStandard}
+use Rattle.rounds.proofs.density.Terms.{top, bottom, Reaches, reaches-mono, reaches-terms, supply-terms}
 use Rattle.rounds.proofs.density.Splitting.{Splits, splits-refine}
 use Rattle.rounds.proofs.density.Core.{Supplied, splits-supplied}
 
@@ -71,7 +72,7 @@ splits-share {N} {β} {n} {values} h s =
     reaches-mono N β (le-trans (le-of-eq least) (leastBundle-le-maximinShare n values (s .partition) (isPartition-within r) (isPartition-length r))) (s .reaches c lo hi)
 
 -- n bundles of N = n + m, by allowed terms
-module _ (N n m : ℕ) (terms : Terms) (allowed : Allowed N terms) (some-agents : 1 ≤ n) (of-all : n + m ≡ N) where
+module _ (N n m : ℕ) (terms : Terms) (allowed : AtMostStandard N terms) (some-agents : 1 ≤ n) (of-all : n + m ≡ N) where
   pub density-balance : (values inside : List ℕ) → Sublist inside values
       → terms .bottom * total values ≤ terms .bottom * total inside + m * (terms .top * maximinShare N values)
       → terms .top * maximinShare N values ≤ terms .bottom * maximinShare n inside

@@ -4,9 +4,10 @@ use Prim.Native.Nat.{ℕ, suc, _+_, _*_, _-_, _/_, _≤_, _<_}
 use native.Mathlib.Nat.{mul-add, add-mul, suc-mul, mul-assoc, mul-comm, mul-left-comm}
 use native.Mathlib.Nat.{mul-pos, mul-le-mul, mul-le-mul-left, mul-le-mul-right, le-trans, lt-of-le-of-lt, le-of-mul-le-mul-left}
 use native.Mathlib.Omega.{arith}
-use Rattle.margins.specs.declared.Terms.{Terms}
-use Rattle.margins.specs.Terms.{largestOdd, termsFor}
-use Rattle.margins.proofs.TermsFor.{top-le-bottom}
+use Rattle.terms.specs.declared.Terms.{Terms}
+use Rattle.terms.specs.Terms.{largestOdd, termsFor}
+use Rattle.terms.proofs.TermsFor.{top-le-bottom, bottom-positive}
+use Rattle.terms.specs.Allowed.{AtMostStandard}
 
 -- products multiplied out and sorted: what is left is linear in them
 ruleset expand = (mul-add, add-mul, suc-mul, mul-assoc, mul-comm, mul-left-comm)
@@ -21,9 +22,6 @@ bottom N = termsFor N .bottom
 terms-parts : (N : ℕ) → let k = (N - 1) / 2 in (N ≤ 2 * k + 2) × (top N ≡ 2 * (2 * k + 1)) × (bottom N ≡ 2 * (3 * k + 1))
 unfolding termsFor largestOdd
 terms-parts N = omega arith
-
-bottom-pos : (N : ℕ) → 0 < bottom N
-bottom-pos N = omega (arith, terms-parts N)
 
 -- s reaches the part top / bottom of β
 abbrev pub Reaches : ℕ → ℕ → ℕ → Type 0
@@ -69,24 +67,16 @@ pub not-absent : (N β m e d : ℕ) → 0 < β → m < e → bottom N * (d + e *
 not-absent N β m e d h₁ h₂ h₃ =
     let below = mul-le-mul-left m (mul-le-mul-right β (top-le-bottom N)) in
     let absent = mul-le-mul-right (bottom N * β) h₂ in
-    omega (arith, mul-pos (bottom-pos N) h₁, simp expand at below, simp expand at absent, simp expand at h₃)
+    omega (arith, mul-pos (bottom-positive N) h₁, simp expand at below, simp expand at absent, simp expand at h₃)
 
--- terms that promise no more than those of document 01
-pub record Allowed (N : ℕ) (terms : Terms) : Type 0 where
-  pub positive : 0 < terms .bottom
-  pub lower : terms .top * bottom N ≤ top N * terms .bottom
-
-pub termsFor-allowed : (N : ℕ) → Allowed N (termsFor N)
-termsFor-allowed N = record { positive = bottom-pos N; lower = omega arith }
-
-module _ (N : ℕ) (terms : Terms) (allowed : Allowed N terms) where
+module _ (N : ℕ) (terms : Terms) (allowed : AtMostStandard N terms) where
   -- what reaches the part of document 01 reaches the part of allowed terms
   pub reaches-terms : (β s : ℕ) → Reaches N β s → terms .top * β ≤ terms .bottom * s
   reaches-terms β s h =
       let below = mul-le-mul-right β (allowed .lower) in
       let reach = mul-le-mul-left (terms .bottom) h in
       let scaled : bottom N * (terms .top * β) ≤ bottom N * (terms .bottom * s) = simp expand (omega (arith, simp expand at below, simp expand at reach)) in
-      le-of-mul-le-mul-left scaled (bottom-pos N)
+      le-of-mul-le-mul-left scaled (bottom-positive N)
 
   -- what is at most m times the part of allowed terms is at most m times the part of document 01
   pub supply-terms : (v m β : ℕ) → terms .bottom * v ≤ m * (terms .top * β) → bottom N * v ≤ m * (top N * β)

@@ -30,13 +30,13 @@ use Rattle.bundling.proofs.Sums.{bundleValue-items, sumOver-handed}
 use Rattle.rounds.proofs.round.Held.{AllSuit, suited-allSuit}
 use Rattle.matching.proofs.Cutter.{cutterOf-mem}
 use Rattle.matching.proofs.Serving.{served-or-waiting, free-unsuited, served-matched, none-waiting-all-handed}
-use Rattle.rounds.proofs.density.Terms.{Allowed}
+use Rattle.terms.specs.Allowed.{AtMostStandard}
 use Rattle.rounds.proofs.density.Balance.{density-balance}
 use Rattle.rounds.proofs.round.Parts.{cutterCut, cutSuits, waiting-sub, left-sub}
 
 -- an instance of N agents and M items: terms that promise no more than document 01, and shares by the valuations
 pub record Sound (N M : ℕ) (G : Instance) : Type 0 where
-  pub allowed : Allowed N (G .terms)
+  pub allowed : AtMostStandard N (G .terms)
   pub own-shares : (agent : ℕ) → Mem agent (range 1 N) → nth 0 (G .shares) agent ≡ shareOf N M (G .valuations) agent
 
 -- the value of items to an agent

@@ -15,7 +15,7 @@ use Rattle.lists.proofs.Cases.{below-zero}
 use Rattle.sheet.specs.Limits.{mostAgents, greatestSum}
 use Rattle.sheet.specs.Sets.{itemsOf}
 use Rattle.sheet.specs.Valuations.{value}
-use Rattle.margins.specs.Terms.{termsFor}
+use Rattle.terms.specs.Terms.{termsFor}
 use Rattle.margins.specs.Margins.{margin}
 use Rattle.margins.proofs.Signs.{nonNeg-margin}
 use Rattle.settling.specs.Suiting.{setSuits}

@@ -1,12 +1,12 @@
--- `margins::terms_for` meets its contract, by arithmetic. Assumes nothing.
+-- `terms::terms_for` meets its contract, by arithmetic. Assumes nothing.
 use mathlib.Core.Path.{ap₂}
 use Prim.Native.Nat.{ℕ}
 use native.Mathlib.Omega.{arith}
 use borrow.Author.Needs.{needs}
-use Rattle.margins.specs.Terms.{largestOdd, termsFor}
-use Rattle.margins.specs.declared.Terms.{Terms}
-use Rattle.margins.proofs.terms_for.Statement.{statement}
-use Rattle.margins.proofs.terms_for.Tie as tie
+use Rattle.terms.specs.Terms.{largestOdd, termsFor}
+use Rattle.terms.specs.declared.Terms.{Terms}
+use Rattle.terms.proofs.terms_for.Statement.{statement}
+use Rattle.terms.proofs.terms_for.Tie as tie
 
 lesser-requires : tie.Need-lesser-requires
 lesser-requires c κs = search needs

@@ -1,4 +1,4 @@
--- The terms for a number of agents: what K is, document 01's table of them, how great they are, and that no more than the whole share is promised.
+-- The terms of document 01 for a number of agents: what K is, document 01's table of them, how great they are, and that no more than the whole share is promised.
 -- Assumes nothing.
 use mathlib.Core.Path.{_≡_, refl}
 use mathlib.Core.List.{[], _∷_, map}
@@ -6,7 +6,7 @@ use Prim.Native.Nat.{ℕ, _%_, _≤_}
 use native.Mathlib.Omega.{arith}
 use Rattle.lists.specs.Lists.{range}
 use Rattle.sheet.specs.Limits.{mostAgents}
-use Rattle.margins.specs.Terms.{largestOdd, termsFor}
+use Rattle.terms.specs.Terms.{largestOdd, termsFor}
 
 -- K is odd, not above n, and the largest such number
 pub largestOdd-largest : (n : ℕ) → 1 ≤ n → (largestOdd n % 2 ≡ 1) × (largestOdd n ≤ n) × ((k : ℕ) → k % 2 ≡ 1 → k ≤ n → k ≤ largestOdd n)
@@ -28,6 +28,10 @@ pub terms-table : map row (range 1 mostAgents) ≡
     ∷ []
 unfolding termsFor largestOdd
 terms-table = refl
+
+pub bottom-positive : (n : ℕ) → 1 ≤ termsFor n .bottom
+unfolding termsFor largestOdd
+bottom-positive n = omega arith
 
 -- top is at most bottom
 pub top-le-bottom : (n : ℕ) → termsFor n .top ≤ termsFor n .bottom

@@ -1,0 +1,3 @@
+-- The terms of a division: those of document 01, and which others are allowed.
+pub mod Terms
+pub mod Allowed
