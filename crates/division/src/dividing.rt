@@ -6,7 +6,6 @@ ghost use Rattle.lists.specs.Lists.{Within};
 ghost use Rattle.sheet.specs.Limits.{mostAgents};
 ghost use Rattle.sheet.specs.Sets.{itemsOf};
 ghost use Rattle.cut.specs.Outcome.{placed};
-ghost use Rattle.terms.specs.Terms.{termsFor};
 ghost use Rattle.matching.specs.Matching.{cutterOf};
 ghost use Rattle.serving.specs.Serving.{agentsIn};
 ghost use Rattle.division.specs.internal.Allocation.{nothing, stored, withRound, allottedAll};
@@ -20,6 +19,7 @@ use sheet::Sheet;
 use sheet::Table;
 use sheet::amounts::Amounts;
 use sheet::naming::items_of;
+use terms::Terms;
 
 // What has been handed out: the set of items of each agent, the cutter of each round in turn (0 after the last), the number of rounds.
 pub struct Allocation {
@@ -84,11 +84,11 @@ fn cut_left(table: Table, cutter: u8, left: u16, set: u16, allowance: u32) -> Pa
 }
 
 // The allocation once the agents left have divided the items left: one round, and the agents that wait divide what it leaves, with the same
-// allowance, in a division among so many agents. `cutter` cuts this round, and `partition` is its cut of the items left.
+// allowance, by the terms. `cutter` cuts this round, and `partition` is its cut of the items left.
 pub(crate) fn divide_left(
     table: Table,
     shares: Amounts,
-    agents: usize,
+    terms: Terms,
     allowance: u32,
     cutter: u8,
     left: u16,
@@ -96,10 +96,10 @@ pub(crate) fn divide_left(
     partition: Partition,
     allocation: Allocation,
 ) -> Allocation
-    requires { ⌜ Ready agents shares allowance left set allocation × (cutter ≡ cutterOf (agentsIn left)) × (partition ≡ placed (cutLeft table cutter (agentsIn left) (itemsOf set))) ⌝ }
-    ensures { λ r. ⌜ r ≡ allottedAll (instanceFrom (termsFor agents) table shares) (agentsIn left) (itemsOf set) allocation ⌝ }
+    requires { ⌜ Ready terms shares allowance left set allocation × (cutter ≡ cutterOf (agentsIn left)) × (partition ≡ placed (cutLeft table cutter (agentsIn left) (itemsOf set))) ⌝ }
+    ensures { λ r. ⌜ r ≡ allottedAll (instanceFrom terms table shares) (agentsIn left) (itemsOf set) allocation ⌝ }
 {
-    let round = settle_round(table, shares, agents, cutter, left, set, partition);
+    let round = settle_round(table, shares, terms, cutter, left, set, partition);
     let served = round.served;
     let numbers = served.numbers;
     let count = served.count;
@@ -115,7 +115,7 @@ pub(crate) fn divide_left(
     divide_left(
         table,
         shares,
-        agents,
+        terms,
         allowance,
         next_cutter,
         waiting,

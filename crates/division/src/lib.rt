@@ -1,7 +1,7 @@
 // Dividing a table of marks among its agents (yards). Its meaning stands in specs/ and in the crate `rounds`, the promise in proofs/Theorems.antt.
 ghost use mathlib.Core.Path.{_≡_};
 ghost use Rattle.sheet.specs.Answers.{refused, accepted};
-ghost use Rattle.rounds.specs.Division.{divisionByRounds, answer};
+ghost use Rattle.rounds.specs.Division.{instanceOfTable, divisionOf, answer};
 ghost use Rattle.division.specs.Outcome.{outcome};
 ghost use Rattle.division.specs.Promise.{Promised};
 ghost use Rattle.division.specs.internal.Shared.{IsShared};
@@ -18,6 +18,8 @@ use sheet::Sheet;
 use sheet::Table;
 use sheet::amounts::Amounts;
 use sheet::naming::all_items;
+use terms::Terms;
+use terms::terms_for;
 
 mod dividing;
 
@@ -53,16 +55,17 @@ fn refuse(number: u8) -> Outcome
     }
 }
 
-// The division of a table that is not refused, from the shares and the cuts: the first cutter's own cut serves the first round.
+// The division of a table that is not refused, by the terms, from the shares and the cuts: the first cutter's own cut serves the first round.
 fn divide_shared(
     table: Table,
     agents: usize,
     items: usize,
+    terms: Terms,
     allowance: u32,
     own: shares::Outcome,
 ) -> Outcome
-    requires { ⌜ IsShared agents items table allowance own ⌝ }
-    ensures { λ r. ⌜ r ≡ outcome (accepted (divisionByRounds agents items table)) ⌝ }
+    requires { ⌜ IsShared agents items table terms allowance own ⌝ }
+    ensures { λ r. ⌜ r ≡ outcome (accepted (divisionOf agents items (instanceOfTable agents items table terms))) ⌝ }
 {
     let shares = own.shares;
     let cuts = own.cuts;
@@ -74,7 +77,7 @@ fn divide_shared(
     let allocation = divide_left(
         table,
         shares,
-        agents,
+        terms,
         allowance,
         cutter,
         all,
@@ -85,7 +88,7 @@ fn divide_shared(
     let bundles = allocation.bundles;
     let cutters = allocation.cutters;
     let worths = worths_of(table, agents, items, bundles);
-    let margins = margins_of(agents, worths, shares);
+    let margins = margins_of(agents, terms, worths, shares);
     let grade = grade_of(table, agents, items, shares, margins, bundles);
     Outcome {
         answer: Answer::Divided(grade),
@@ -107,6 +110,13 @@ pub fn divide(table: Table, agents: usize, items: usize, allowance: u32) -> Outc
     let answer = own.answer;
     match answer {
         shares::Answer::Refused(number) => refuse(number),
-        shares::Answer::Shared => divide_shared(table, agents, items, allowance, own),
+        shares::Answer::Shared => divide_shared(
+            table,
+            agents,
+            items,
+            terms_for(agents),
+            allowance,
+            own,
+        ),
     }
 }

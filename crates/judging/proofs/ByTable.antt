@@ -19,6 +19,7 @@ use Rattle.shares.specs.Known.{SharesIn}
 use Rattle.shares.proofs.Profile.{nth-shares}
 use Rattle.shares.proofs.Outcomes.{nth-shares-in}
 use Rattle.terms.specs.Terms.{termsFor}
+use Rattle.terms.proofs.Allowed.{termsFor-small}
 use Rattle.margins.specs.Margins.{margin, marginWithin, marginsStored}
 use Rattle.grades.specs.Grade.{ownValues, valueTo, worthsIn, gradeIn}
 use Rattle.grades.specs.Scale.{sharesOf, marginsByTable, gradeByTable}
@@ -40,27 +41,27 @@ module _ (n m : ℕ) (table : List (List ℕ)) (shares : List ℕ) (shared : Sha
 
     module _ (worths : List ℕ) (own : worths ≡ worthsIn n m table sets) (small : SmallAmounts worths) where
       margin-by-table : (i : ℕ) → Mem i (range 1 n)
-          → nth (pos 0) (marginsStored n worths shares) i ≡ margin (termsFor n) (nth 0 (ownValues n (profile n m table) bundles) i) (nth 0 (sharesOf n m table) i)
+          → nth (pos 0) (marginsStored n (termsFor n) worths shares) i ≡ margin (termsFor n) (nth 0 (ownValues n (profile n m table) bundles) i) (nth 0 (sharesOf n m table) i)
       margin-by-table i mi =
-          nth-marginsStored n worths shares (shared .counts .few) small (shared .small) mi
+          nth-marginsStored n (termsFor n) worths shares (shared .counts .few) (termsFor-small n (shared .counts .few)) small (shared .small) mi
           ∙ ap₂ (margin (termsFor n)) (ap (λ l. nth 0 l i) own ∙ worth-by-table mi) (share-by-table mi)
 
       -- the margins in their places
-      pub margins-by-table : marginsStored n worths shares ≡ padded mostAgents (pos 0) (marginsByTable n m table bundles)
+      pub margins-by-table : marginsStored n (termsFor n) worths shares ≡ padded mostAgents (pos 0) (marginsByTable n m table bundles)
       margins-by-table =
           let agents : min n mostAgents ≡ n = omega (arith, shared .counts .few) in
-          let stored : ℕ → ℤ = λ i. marginWithin n (nth 0 worths i) (nth 0 shares i) in
+          let stored : ℕ → ℤ = λ i. marginWithin (termsFor n) (nth 0 worths i) (nth 0 shares i) in
           let byTable : ℕ → ℤ = λ i. margin (termsFor n) (nth 0 (ownValues n (profile n m table) bundles) i) (nth 0 (sharesOf n m table) i) in
-          let first : marginsStored n worths shares ≡ padded mostAgents (pos 0) (map stored (range 1 n)) = ap (λ k. padded mostAgents (pos 0) (map stored (range 1 k))) agents in
+          let first : marginsStored n (termsFor n) worths shares ≡ padded mostAgents (pos 0) (map stored (range 1 n)) = ap (λ k. padded mostAgents (pos 0) (map stored (range 1 k))) agents in
           first
           ∙ ap (padded mostAgents (pos 0)) (map-cong stored byTable (range 1 n)
           (λ i mi. sym (ap (λ l. nth (pos 0) l i) first ∙ nth-padded-range mostAgents (pos 0) (pos 0) stored n mi) ∙ margin-by-table i mi))
 
       -- the grade
-      pub grade-by-table : gradeIn n m table shares (marginsStored n worths shares) sets ≡ gradeByTable n m table bundles
+      pub grade-by-table : gradeIn n m table shares (marginsStored n (termsFor n) worths shares) sets ≡ gradeByTable n m table bundles
       grade-by-table =
-          gradeIn-within n m table shares (marginsStored n worths shares) sets (counts-in-use (shared .counts))
-          ∙ grade-cong n (profile n m table) shares (sharesOf n m table) (marginsStored n worths shares) (marginsByTable n m table bundles) (map itemsOf sets) bundles
+          gradeIn-within n m table shares (marginsStored n (termsFor n) worths shares) sets (counts-in-use (shared .counts))
+          ∙ grade-cong n (profile n m table) shares (sharesOf n m table) (marginsStored n (termsFor n) worths shares) (marginsByTable n m table bundles) (map itemsOf sets) bundles
           (λ i mi. share-by-table mi)
           (λ i mi. margin-by-table i mi ∙ sym (nth-map-range (λ i. margin (termsFor n) (nth 0 (ownValues n (profile n m table) bundles) i) (nth 0 (sharesOf n m table) i)) (pos 0) n mi))
           same

@@ -23,6 +23,7 @@ use sheet::amounts::Amounts;
 use stated_figures::figures_true;
 use stated_items::Test;
 use stated_items::all_pass;
+use terms::terms_for;
 
 // The number of the reason why the division is refused, or that it is accepted.
 pub enum Answer {
@@ -78,11 +79,12 @@ fn judge_shared(
     requires { ⌜ SharesIn agents items table shares ⌝ }
     ensures { λ r. ⌜ r ≡ outcome (judging agents items table (statedIn agents stated)) ⌝ }
 {
+    let terms = terms_for(agents);
     let read = stated.read;
     let lines = stated.lines;
     let bundles = bundles_of(lines);
     let worths = worths_of(table, agents, items, bundles);
-    let margins = margins_of(agents, worths, shares);
+    let margins = margins_of(agents, terms, worths, shares);
     let grade = grade_of(table, agents, items, shares, margins, bundles);
     let named = all_pass(Test::OfSheet, bundles, lines, agents, items);
     let once = all_pass(Test::EachInOne, bundles, lines, agents, items);

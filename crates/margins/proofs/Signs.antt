@@ -1,18 +1,17 @@
 -- The sign of a margin, and its size: what makes 64 bits enough. Assumes nothing.
 use mathlib.Core.Path.{_≡_, refl, sym}
 use mathlib.Core.Bool.{Bool, true, false, cond}
-use Prim.Native.Nat.{ℕ, zero, suc, _*_, _-_, _^_, _≤_, _<_}
+use Prim.Native.Nat.{ℕ, zero, suc, _*_, _-_, _≤_, _<_, _^_}
 use native.Mathlib.Nat.{mul-le-mul}
 use native.Mathlib.Omega.{arith}
 use lib.Dec.{leb, ltb}
 use lib.IntN.{pos, negsuc, _-ℤ_}
 use lib.Signed.{mag, nonNeg}
 use borrow.Author.Tests.{ltb-true, ltb-false, le-leb, lt-leb}
-use Rattle.sheet.specs.Limits.{mostAgents, greatestSum}
-use Rattle.terms.specs.Terms.{largestOdd, termsFor}
+use Rattle.sheet.specs.Limits.{greatestSum, greatestTerm}
+use Rattle.terms.specs.Allowed.{SmallTerms}
 use Rattle.margins.specs.Margins.{margin, greatestMargin}
 use Rattle.terms.specs.declared.Terms.{Terms}
-use Rattle.terms.proofs.TermsFor.{top-small, bottom-small}
 
 -- a difference of numbers below H is below H without its sign
 size-by : (a b H : ℕ) → a < H → b ≤ H → (less : Bool) → (less ≡ true → a < b) → mag (cond less (negsuc (b - suc a)) (pos (a - b))) < H
@@ -39,21 +38,15 @@ nonNeg-margin terms worth share = nonNeg-difference (terms .bottom * worth) (ter
 
 -- 63 bits beside the sign are enough for it
 pub greatestMargin-small : greatestMargin < 2 ^ 63
-unfolding termsFor largestOdd
 greatestMargin-small = omega arith
 
--- the two products of a margin within the limits of a sheet
-pub held-small : (n worth : ℕ) → n ≤ mostAgents → worth ≤ greatestSum → termsFor n .bottom * worth ≤ greatestMargin
-unfolding termsFor largestOdd
-held-small n worth few small = mul-le-mul (bottom-small n few) small
+-- a product of a number of the terms and an amount
+pub product-small : (number amount : ℕ) → number ≤ greatestTerm → amount ≤ greatestSum → number * amount ≤ greatestMargin
+product-small number amount small small-amount = mul-le-mul small small-amount
 
-pub promised-small : (n share : ℕ) → n ≤ mostAgents → share ≤ greatestSum → termsFor n .top * share ≤ greatestMargin
-unfolding termsFor largestOdd
-promised-small n share few small = omega (arith, mul-le-mul (top-small n few) small)
-
-pub margin-small : (n worth share : ℕ) → n ≤ mostAgents → worth ≤ greatestSum → share ≤ greatestSum → mag (margin (termsFor n) worth share) < suc greatestMargin
+pub margin-small : (terms : Terms) (worth share : ℕ) → SmallTerms terms → worth ≤ greatestSum → share ≤ greatestSum → mag (margin terms worth share) < suc greatestMargin
 unfolding margin
-margin-small n worth share few small-worth small-share =
-    difference-small (termsFor n .bottom * worth) (termsFor n .top * share) (suc greatestMargin)
-    (omega (arith, held-small n worth few small-worth))
-    (omega (arith, promised-small n share few small-share))
+margin-small terms worth share small small-worth small-share =
+    difference-small (terms .bottom * worth) (terms .top * share) (suc greatestMargin)
+    (omega (arith, product-small (terms .bottom) worth (small .small-bottom) small-worth))
+    (omega (arith, product-small (terms .top) share (small .small-top) small-share))

@@ -5,8 +5,7 @@ use Prim.Native.Nat.{ℕ, _*_, min}
 use lib.IntN.{ℤ, pos, _-ℤ_}
 use lib.Signed.{nonNeg}
 use Rattle.lists.specs.Lists.{range, nth, all, padded}
-use Rattle.sheet.specs.Limits.{mostAgents, greatestSum}
-use Rattle.terms.specs.Terms.{termsFor}
+use Rattle.sheet.specs.Limits.{mostAgents, greatestSum, greatestTerm}
 use Rattle.terms.specs.declared.Terms.{Terms}
 
 -- "bottom × worth minus top × share", a whole number that may be below zero
@@ -21,14 +20,18 @@ marginsOf n terms worths shares = map (λ i. margin terms (nth 0 worths i) (nth 
 abbrev pub noneNegative : ℕ → List ℤ → Bool
 noneNegative n margins = all (λ i. nonNeg (nth (pos 0) margins i)) (range 1 n)
 
--- the margin of amounts that are cut to the limits of a sheet, among agents of a number that is cut to them too
-abbrev pub marginWithin : ℕ → ℕ → ℕ → ℤ
-marginWithin agents worth share = margin (termsFor (min agents mostAgents)) (min worth greatestSum) (min share greatestSum)
+-- the terms with numbers that are cut to the greatest
+abbrev pub termsWithin : Terms → Terms
+termsWithin terms = record { top = min (terms .top) greatestTerm; bottom = min (terms .bottom) greatestTerm }
+
+-- the margin of amounts that are cut to the greatest sum, by terms that are cut too
+abbrev pub marginWithin : Terms → ℕ → ℕ → ℤ
+marginWithin terms worth share = margin (termsWithin terms) (min worth greatestSum) (min share greatestSum)
 
 -- the margins in six places, 0 after the last agent
-abbrev pub marginsStored : ℕ → List ℕ → List ℕ → List ℤ
-marginsStored agents worths shares = padded mostAgents (pos 0) (map (λ i. marginWithin agents (nth 0 worths i) (nth 0 shares i)) (range 1 (min agents mostAgents)))
+abbrev pub marginsStored : ℕ → Terms → List ℕ → List ℕ → List ℤ
+marginsStored agents terms worths shares = padded mostAgents (pos 0) (map (λ i. marginWithin terms (nth 0 worths i) (nth 0 shares i)) (range 1 (min agents mostAgents)))
 
--- no margin on a sheet is greater without its sign: the greatest bottom times the greatest sum
+-- no margin is greater without its sign: the greatest bottom times the greatest sum
 abbrev pub greatestMargin : ℕ
-greatestMargin = termsFor mostAgents .bottom * greatestSum
+greatestMargin = greatestTerm * greatestSum

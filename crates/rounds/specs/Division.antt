@@ -26,9 +26,13 @@ pub record Division : Type 0 where
 abbrev pub instanceOf : ℕ → Terms → List (List ℕ) → Instance
 instanceOf n terms valuations = record { terms = terms; valuations = valuations; shares = map (maximinShare n) valuations }
 
--- the places in use of a table, by the terms of document 01: they are fixed here and nowhere else
+-- the places in use of a table, by the terms
+abbrev pub instanceOfTable : ℕ → ℕ → List (List ℕ) → Terms → Instance
+instanceOfTable n m table terms = instanceOf n terms (profile n m table)
+
+-- the same by the terms of document 01: for a division they are fixed here and nowhere else
 abbrev pub standardInstance : ℕ → ℕ → List (List ℕ) → Instance
-standardInstance n m table = instanceOf n (termsFor n) (profile n m table)
+standardInstance n m table = instanceOfTable n m table (termsFor n)
 
 module _ (n m : ℕ) (G : Instance) where
   -- the rounds from n agents and the items 1 .. m

@@ -7,16 +7,17 @@ use Rattle.lists.specs.Sums.{total}
 use Rattle.sheet.specs.Limits.{mostAgents}
 use Rattle.sheet.specs.Sets.{setOf}
 use Rattle.sheet.specs.Listed.{numbered}
+use Rattle.terms.specs.declared.Terms.{Terms}
 use Rattle.bundling.specs.Bundles.{bundleSets}
 use Rattle.matching.specs.Matching.{waitingOf, servedOf, chosenOf}
 use Rattle.serving.specs.Serving.{suitsOf, agentsIn}
 use Rattle.settling.specs.Suiting.{suitsTable}
 use Rattle.settling.specs.declared.Settled.{Settled}
 
-module _ (agents : ℕ) (table : List (List ℕ)) (shares : List ℕ) (cutter left set : ℕ) (partition : List ℕ) where
+module _ (terms : Terms) (table : List (List ℕ)) (shares : List ℕ) (cutter left set : ℕ) (partition : List ℕ) where
   -- whether a bundle (pile) of the partition suits an agent (yard)
   abbrev pub bundleSuits : ℕ → ℕ → Bool
-  bundleSuits = suitsOf (suitsTable agents table shares (bundleSets set partition))
+  bundleSuits = suitsOf (suitsTable terms table shares (bundleSets set partition))
 
   -- the sets of the bundles that are handed out, 0 after the last
   abbrev pub handedSets : List ℕ

@@ -11,6 +11,7 @@ use sheet::Sets;
 use sheet::Table;
 use sheet::amounts::Amounts;
 use sheet::listing::Numbers;
+use terms::Terms;
 
 mod handing;
 mod suiting;
@@ -24,21 +25,21 @@ pub struct Settled {
     pub left: u16,
 }
 
-// One round of the agents left and the items left, in a division among so many agents; `cutter` is one of the agents left, and `partition`
-// its cut of the items left. The number of agents and the shares are cut to the limits of a sheet.
+// One round of the agents left and the items left, by the terms; `cutter` is one of the agents left, and `partition` its cut of the items
+// left. The terms and the shares are cut to their limits.
 pub fn settle_round(
     table: Table,
     shares: Amounts,
-    agents: usize,
+    terms: Terms,
     cutter: u8,
     left: u16,
     set: u16,
     partition: Partition,
 ) -> Settled
-    ensures { λ r. ⌜ r ≡ settledBy agents table shares cutter left set partition ⌝ }
+    ensures { λ r. ⌜ r ≡ settledBy terms table shares cutter left set partition ⌝ }
 {
     let sets = bundle_sets(set, partition);
-    let suits = suits_table(table, shares, agents, sets);
+    let suits = suits_table(table, shares, terms, sets);
     let round = serve(suits, cutter, left);
     let chosen = round.chosen;
     let numbers = chosen.numbers;

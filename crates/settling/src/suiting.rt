@@ -9,40 +9,41 @@ use sheet::Sheet;
 use sheet::Table;
 use sheet::amounts::Amounts;
 use sheet::valuing::value_of;
+use terms::Terms;
 
-// Whether the items of the set suit an agent with this valuation and share, among so many agents.
-fn set_suits(valuation: Row, share: u64, agents: usize, set: u16) -> bool
-    ensures { λ r. ⌜ r ≡ setSuits agents valuation share set ⌝ }
+// Whether the items of the set suit an agent with this valuation and share, by the terms.
+fn set_suits(valuation: Row, share: u64, terms: Terms, set: u16) -> bool
+    ensures { λ r. ⌜ r ≡ setSuits terms valuation share set ⌝ }
 {
-    let margin = margin_of(agents, value_of(valuation, set), share);
+    let margin = margin_of(terms, value_of(valuation, set), share);
     if margin < 0 {
         return false;
     }
     true
 }
 
-// Which of the sets suit an agent with this valuation and share.
-fn suits_row(valuation: Row, share: u64, agents: usize, sets: Sets) -> [bool; Sheet::AGENTS]
-    ensures { λ r. ⌜ r ≡ suitsRow agents valuation share sets ⌝ }
+// Which of the sets suit an agent with this valuation and share, by the terms.
+fn suits_row(valuation: Row, share: u64, terms: Terms, sets: Sets) -> [bool; Sheet::AGENTS]
+    ensures { λ r. ⌜ r ≡ suitsRow terms valuation share sets ⌝ }
 {
     let mut row = [false; Sheet::AGENTS];
     let mut i: usize = 0;
     while i < Sheet::AGENTS {
-        row[i] = set_suits(valuation, share, agents, sets[i]);
+        row[i] = set_suits(valuation, share, terms, sets[i]);
         i += 1;
     }
     row
 }
 
-// Which of the sets suit which agent.
-pub(crate) fn suits_table(table: Table, shares: Amounts, agents: usize, sets: Sets) -> Suits
-    ensures { λ r. ⌜ r ≡ suitsTable agents table shares sets ⌝ }
+// Which of the sets suit which agent, by the terms.
+pub(crate) fn suits_table(table: Table, shares: Amounts, terms: Terms, sets: Sets) -> Suits
+    ensures { λ r. ⌜ r ≡ suitsTable terms table shares sets ⌝ }
 {
     let mut suits = [[false; Sheet::AGENTS]; Sheet::AGENTS];
     let mut i: usize = 0;
     while i < Sheet::AGENTS {
         let valuation = table[i];
-        suits[i] = suits_row(valuation, shares[i], agents, sets);
+        suits[i] = suits_row(valuation, shares[i], terms, sets);
         i += 1;
     }
     suits

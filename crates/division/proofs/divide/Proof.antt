@@ -2,16 +2,19 @@
 -- Assumes nothing.
 use mathlib.Core.Path.{_≡_, sym, ap, _∙_}
 use mathlib.Core.List.{List}
-use Prim.Native.Nat.{ℕ, _≤_}
+use Prim.Native.Nat.{ℕ, _≤_, min}
+use native.Mathlib.Omega.{arith}
 use borrow.Author.Needs.{needs}
-use Rattle.sheet.specs.Limits.{CountsWithin}
-use Rattle.sheet.specs.Answers.{Answer}
+use Rattle.sheet.specs.Limits.{mostAgents, CountsWithin}
+use Rattle.sheet.specs.Answers.{Answer, accepted}
 use Rattle.growth.specs.Growth.{growths}
 use Rattle.shares.specs.Shares.{sharingWithin}
 use Rattle.shares.specs.Outcome as shares
 use Rattle.shares.proofs.Allowance.{sharingWithin-enough}
 use Rattle.shares.proofs.Outcomes.{answered-refused, answered-shared-within}
-use Rattle.rounds.specs.Division.{Division, answer}
+use Rattle.terms.specs.Terms.{termsFor}
+use Rattle.terms.proofs.Allowed.{termsFor-allowed}
+use Rattle.rounds.specs.Division.{Division, instanceOfTable, divisionOf, answer}
 use Rattle.rounds.proofs.Answers.{answer-refused, answer-within-limits}
 use Rattle.division.specs.Outcome.{outcome}
 use Rattle.division.specs.Promise.{Promised}
@@ -45,13 +48,24 @@ shared-within c =
     let a = c .before .before .before .args in
     answered-shared-within (a .agents) (a .items) (a .table) (a .allowance) (sym (ap (λ o. o .answer) (c .before .before .share-each-within .ensures .0)) ∙ c .enum-told .given .1)
 
+terms-for-requires : tie.Need-terms-for-requires
+terms-for-requires c κs = search needs
+
+-- the terms are those of document 01
+terms-are : (c : tie.After-terms-for) → c .terms-for .result ≡ termsFor (c .before .before .before .before .args .agents)
+terms-are c =
+    let (counts, enough) = shared-within (c .before) in
+    let agents : min (c .before .before .before .before .args .agents) mostAgents ≡ c .before .before .before .before .args .agents = omega (arith, counts .few) in
+    c .terms-for .ensures ∙ ap termsFor agents
+
 divide-shared-requires : tie.Need-divide-shared-requires
 divide-shared-requires c κs =
-    let a = c .before .before .before .args in
-    let own = c .before .before .share-each-within in
-    let (counts, enough) = shared-within c in
+    let a = c .before .before .before .before .args in
+    let own = c .before .before .before .share-each-within in
+    let (counts, enough) = shared-within (c .before) in
     record {
       counts = counts;
+      allowed = rw (terms-are c) (termsFor-allowed (a .agents) (counts .few));
       enough = enough;
       own-shares = own .ensures .0 ∙ ap shares.outcome (sharingWithin-enough (a .agents) (a .items) (a .table) (a .allowance) enough);
       small-shares = own .ensures .1;
@@ -67,9 +81,10 @@ returns c =
 
 returns-2 : tie.Need-returns-2
 returns-2 c =
-    let a = c .before .before .before .before .args in
-    let (counts, enough) = shared-within (c .before) in
-    answered (a .agents) (a .items) (a .table) (a .allowance) _ _ (c .divide-shared .ensures) (answer-within-limits (a .agents) (a .items) (a .table) (a .allowance) counts enough)
+    let a = c .before .before .before .before .before .args in
+    let (counts, enough) = shared-within (c .before .before) in
+    let told = c .divide-shared .ensures ∙ ap (λ terms. outcome (accepted (divisionOf (a .agents) (a .items) (instanceOfTable (a .agents) (a .items) (a .table) terms)))) (terms-are (c .before)) in
+    answered (a .agents) (a .items) (a .table) (a .allowance) _ _ told (answer-within-limits (a .agents) (a .items) (a .table) (a .allowance) counts enough)
 
 pub divide-spec : {M : Type 1} → statement M
 divide-spec =
@@ -79,6 +94,7 @@ divide-spec =
     enum-known-answer
     refuse-requires
     enum-told
+    terms-for-requires
     divide-shared-requires
     returns
     returns-2)

@@ -17,7 +17,6 @@ use Rattle.grades.specs.Grade.{gradeIn}
 use Rattle.matching.specs.Matching.{cutterOf}
 use Rattle.matching.proofs.Cutter.{cutterOf-mem}
 use Rattle.serving.specs.Serving.{agentsIn}
-use Rattle.terms.specs.Terms.{termsFor}
 use Rattle.division.specs.internal.Left.{instanceFrom, Ready}
 use Rattle.division.specs.internal.Allocation.{nothing, allottedAll}
 use Rattle.division.specs.declared.dividing.Allocation.{Allocation}
@@ -33,12 +32,12 @@ abbrev at-cutter : tie.After-nothing-handed-out → tie.After-cutter-of
 at-cutter c = c .before .before .before
 
 -- the set of all agents, and that of all items
-agents-are : (c : tie.After-all-items) → let s = start c in c .all-items .result ≡ allAgents (s .args .agents) (s .args .items) (s .args .table) (s .pre .counts)
+agents-are : (c : tie.After-all-items) → let s = start c in c .all-items .result ≡ allAgents (s .args .agents) (s .args .items) (s .args .table) (s .args .terms) (s .pre .counts) (s .pre .allowed)
 agents-are c =
     let s = start c in
     c .all-items .ensures ∙ upTo-is (s .args .agents) mostAgents (s .pre .counts .few) (omega arith)
 
-items-are : (c : tie.After-all-items2) → let s = start (at-cutter (c .before) .before) in c .all-items2 .result ≡ allItems (s .args .agents) (s .args .items) (s .args .table) (s .pre .counts)
+items-are : (c : tie.After-all-items2) → let s = start (at-cutter (c .before) .before) in c .all-items2 .result ≡ allItems (s .args .agents) (s .args .items) (s .args .table) (s .args .terms) (s .pre .counts) (s .pre .allowed)
 items-are c =
     let s = start (at-cutter (c .before) .before) in
     c .all-items2 .ensures ∙ upTo-is (s .args .items) mostItems (s .pre .counts .few-items) (omega arith)
@@ -48,7 +47,7 @@ cutter-mem : (c : tie.After-cutter-of) → Mem (c .cutter-of .result) (range 1 (
 cutter-mem c =
     let s = start (c .before) in
     let n = s .args .agents in
-    let all = ap agentsIn (agents-are (c .before)) ∙ agentsIn-all n (s .args .items) (s .args .table) (s .pre .counts) in
+    let all = ap agentsIn (agents-are (c .before)) ∙ agentsIn-all n (s .args .items) (s .args .table) (s .args .terms) (s .pre .counts) (s .pre .allowed) in
     subst⁻¹ (λ k. Mem k (range 1 n)) (c .cutter-of .ensures ∙ ap cutterOf all) (cutterOf-mem (range 1 n) (omega (arith, length-range 1 n, s .pre .counts .some)))
 
 all-items-requires : tie.Need-all-items-requires
@@ -82,10 +81,10 @@ divide-left-requires c κs =
     let s = start (cutter .before) in
     let a = s .args in
     let none : Cut = record { partition = [] } in (
-      rw (agents-are (cutter .before), items-are c) (subst⁻¹ (Ready (a .agents) (a .own .shares) (a .allowance) (setOf (range 1 (a .agents))) (setOf (range 1 (a .items)))) (at-nothing .nothing-handed-out .ensures)
-          (ready-all (a .agents) (a .items) (a .table) (s .pre .counts) (a .allowance) (s .pre .enough) (a .own .shares) (s .pre .small-shares))),
+      rw (agents-are (cutter .before), items-are c) (subst⁻¹ (Ready (a .terms) (a .own .shares) (a .allowance) (setOf (range 1 (a .agents))) (setOf (range 1 (a .items)))) (at-nothing .nothing-handed-out .ensures)
+          (ready-all (a .agents) (a .items) (a .table) (a .terms) (s .pre .counts) (s .pre .allowed) (a .allowance) (s .pre .enough) (a .own .shares) (s .pre .small-shares))),
       cutter .cutter-of .ensures,
-      rw (agents-are (cutter .before), items-are c) (ap (λ o. nth none (o .cuts) (cutter .cutter-of .result) .partition) (s .pre .own-shares) ∙ own-cut (a .agents) (a .items) (a .table) (s .pre .counts) none (cutter .cutter-of .result) (cutter-mem cutter)),
+      rw (agents-are (cutter .before), items-are c) (ap (λ o. nth none (o .cuts) (cutter .cutter-of .result) .partition) (s .pre .own-shares) ∙ own-cut (a .agents) (a .items) (a .table) (a .terms) (s .pre .counts) (s .pre .allowed) none (cutter .cutter-of .result) (cutter-mem cutter)),
     )
 
 worths-of-requires : tie.Need-worths-of-requires
@@ -100,15 +99,15 @@ grade-of-requires c κs = search needs
 -- what the rounds hand out
 handed : (c : tie.After-divide-left)
     → let s = start (at-cutter (c .before .before) .before) in
-    (c .divide-left .result .bundles ≡ placedSets (s .args .agents) (s .args .items) (s .args .table) (s .pre .counts))
-    × (c .divide-left .result .cutters ≡ placedCutters (s .args .agents) (s .args .items) (s .args .table) (s .pre .counts))
+    (c .divide-left .result .bundles ≡ placedSets (s .args .agents) (s .args .items) (s .args .table) (s .args .terms) (s .pre .counts) (s .pre .allowed))
+    × (c .divide-left .result .cutters ≡ placedCutters (s .args .agents) (s .args .items) (s .args .table) (s .args .terms) (s .pre .counts) (s .pre .allowed))
 handed c =
     let at-items = c .before in
     let at-nothing = at-items .before in
     let at-agents = at-cutter at-nothing .before in
     let s = start at-agents in
     let a = s .args in
-    let run : Outcome → ℕ → ℕ → Allocation → Allocation = λ own left set. allottedAll (instanceFrom (termsFor (a .agents)) (a .table) (own .shares)) (agentsIn left) (itemsOf set) in
+    let run : Outcome → ℕ → ℕ → Allocation → Allocation = λ own left set. allottedAll (instanceFrom (a .terms) (a .table) (own .shares)) (agentsIn left) (itemsOf set) in
     let left = at-agents .all-items .result in
     let set = at-items .all-items2 .result in
     let out =
@@ -116,7 +115,7 @@ handed c =
     ∙ ap (run (a .own) left set) (at-nothing .nothing-handed-out .ensures)
     ∙ ap (λ own. run own left set nothing) (s .pre .own-shares)
     ∙ ap₂ (λ left set. run (outcome (sharing (a .agents) (a .items) (a .table))) left set nothing) (agents-are at-agents) (items-are at-items) in
-    let accepted = allotted-accepted (a .agents) (a .items) (a .table) (s .pre .counts) in
+    let accepted = allotted-accepted (a .agents) (a .items) (a .table) (a .terms) (s .pre .counts) (s .pre .allowed) in
     (ap (λ r. r .bundles) out ∙ accepted .0, ap (λ r. r .cutters) out ∙ accepted .1)
 
 returns : tie.Need-returns
@@ -126,7 +125,7 @@ returns c =
     let at-handed = valued .before .before .before in
     let s = start (at-cutter (at-handed .before .before) .before) in
     let a = s .args in
-    outcome-accepted (a .agents) (a .items) (a .table) (s .pre .counts) (c .grade-of .result) (at-handed .divide-left .result .bundles) (at-handed .divide-left .result .cutters) (valued .worths-of .result) (a .own)
+    outcome-accepted (a .agents) (a .items) (a .table) (a .terms) (s .pre .counts) (s .pre .allowed) (c .grade-of .result) (at-handed .divide-left .result .bundles) (at-handed .divide-left .result .cutters) (valued .worths-of .result) (a .own)
     (c .grade-of .ensures ∙ ap (λ margins. gradeIn (a .agents) (a .items) (a .table) (a .own .shares) margins (at-handed .divide-left .result .bundles)) (margined .margins-of .ensures))
     (valued .worths-of .ensures .0) (valued .worths-of .ensures .1) (s .pre .small-shares) (handed at-handed .0) (handed at-handed .1) (s .pre .own-shares)
 

@@ -33,7 +33,10 @@ use Rattle.matching.proofs.Parts.{chosenOf-distinct, waitingOf-cong, servedOf-c
 use Rattle.serving.specs.Serving.{agentsIn}
 use Rattle.serving.proofs.round.AgentsLeft.{agentsIn-sublist}
 use Rattle.serving.proofs.round.Parts.{chosen-within}
-use Rattle.terms.specs.Terms.{termsFor}
+use Rattle.terms.specs.Allowed.{SmallTerms}
+use Rattle.terms.specs.declared.Terms.{Terms}
+use Rattle.margins.specs.Margins.{termsWithin}
+use Rattle.margins.proofs.Stored.{termsWithin-small}
 use Rattle.rounds.specs.Round.{Instance, Round, round}
 use Rattle.rounds.proofs.round.Parts.{cutterCut, cutSuits}
 use Rattle.settling.specs.Suiting.{setSuits, suitsRow, suitsTable}
@@ -52,13 +55,13 @@ settled r =
       left = setOf (r .left);
     }
 
-module _ {left set : ℕ} (ok : Cuttable left set) (n : ℕ) (few : n ≤ mostAgents) (table : List (List ℕ)) (shares : List ℕ) (small : SmallAmounts shares) where
+module _ {left set : ℕ} (ok : Cuttable left set) (terms : Terms) (small-terms : SmallTerms terms) (table : List (List ℕ)) (shares : List ℕ) (small : SmallAmounts shares) where
   -- the agents left
   abbrev agents : List ℕ
   agents = agentsIn left
 
   abbrev G : Instance
-  G = instanceFrom (termsFor n) table shares
+  G = instanceFrom terms table shares
 
   abbrev cutter : ℕ
   cutter = cutterOf agents
@@ -96,24 +99,20 @@ module _ {left set : ℕ} (ok : Cuttable left set) (n : ℕ) (few : n ≤ mostAg
 
   -- the table says which bundles suit whom
   abbrev tableSuits : ℕ → ℕ → Bool
-  tableSuits = bundleSuits n table shares cutter left set (placed l)
+  tableSuits = bundleSuits terms table shares cutter left set (placed l)
 
   suits-agree : Agree tableSuits suiting agents (bundleNumbers agents)
   unfolding suitsTable suitsRow
   suits-agree agent ma c mc =
       let mostly = sublist-mem (range-sublist 1 (length agents) mostAgents (range-sublist-few mostAgents (agentsIn-sublist left))) mc in
-      ap (λ row. nth false row c) (nth-map-range (λ a. suitsRow n (valuation table a) (nth 0 shares a) cutSets) [] mostAgents (sublist-mem (agentsIn-sublist left) ma))
-      ∙ nth-map-range (λ c. setSuits n (valuation table agent) (nth 0 shares agent) (nth 0 cutSets c)) false mostAgents mostly
-      ∙ ap (suitedBy (min n mostAgents) (min (nth 0 shares agent) greatestSum)) (items-cutSets c mostly)
-      ∙ ap₂ (λ k share. suitedBy k share (bundle (itemsOf set) l c)) agents-kept share-kept
+      ap (λ row. nth false row c) (nth-map-range (λ a. suitsRow terms (valuation table a) (nth 0 shares a) cutSets) [] mostAgents (sublist-mem (agentsIn-sublist left) ma))
+      ∙ nth-map-range (λ c. setSuits terms (valuation table agent) (nth 0 shares agent) (nth 0 cutSets c)) false mostAgents mostly
+      ∙ ap (suitedBy (termsWithin terms) (min (nth 0 shares agent) greatestSum)) (items-cutSets c mostly)
+      ∙ ap₂ (λ t share. suitedBy t share (bundle (itemsOf set) l c)) (termsWithin-small terms small-terms) share-kept
     where
-      -- a list of items, with so many agents and such a share
-      suitedBy : ℕ → ℕ → List ℕ → Bool
-      suitedBy k share ks = leb (termsFor k .top * share) (termsFor k .bottom * value (valuation table agent) ks)
-
-      -- the code cuts neither
-      agents-kept : min n mostAgents ≡ n
-      agents-kept = omega arith
+      -- a list of items, by such terms and with such a share: the code cuts neither
+      suitedBy : Terms → ℕ → List ℕ → Bool
+      suitedBy t share ks = leb (t .top * share) (t .bottom * value (valuation table agent) ks)
 
       share-kept : min (nth 0 shares agent) greatestSum ≡ nth 0 shares agent
       share-kept = omega (arith, small (agent - 1))
@@ -153,7 +152,7 @@ module _ {left set : ℕ} (ok : Cuttable left set) (n : ℕ) (few : n ≤ mostAg
       record { served = numbered served; sets = padded mostAgents 0 sets; waiting = setOf waiting; left = rest }
 
   -- it is what the definition's does
-  pub settled-round : settledBy n table shares cutter left set (placed l) ≡ settled (round G agents (itemsOf set))
+  pub settled-round : settledBy terms table shares cutter left set (placed l) ≡ settled (round G agents (itemsOf set))
   unfolding settledBy round
   settled-round =
       let sets-of : List ℕ → List ℕ = map (nth 0 cutSets) in

@@ -33,17 +33,17 @@ use Rattle.margins.proofs.Stored.{nth-marginsStored}
 use Rattle.grades.proofs.Grades.{grade-cong, gradeIn-within}
 use Rattle.serving.specs.Serving.{agentsIn}
 use Rattle.serving.proofs.round.AgentsLeft.{agentsIn-items}
-use Rattle.terms.specs.Terms.{termsFor}
+use Rattle.terms.specs.Allowed.{AllowedTerms}
+use Rattle.terms.specs.declared.Terms.{Terms}
 use Rattle.margins.specs.Margins.{margin, marginsStored}
-use Rattle.rounds.specs.Division.{standardInstance, allRounds, allocation, allocationMargins, divisionOf, divisionByRounds}
-use Rattle.terms.proofs.Allowed.{termsFor-at-most-standard}
+use Rattle.rounds.specs.Division.{instanceOfTable, allRounds, allocation, allocationMargins, divisionOf}
 use Rattle.rounds.proofs.Allocation.{sound, allocation-sublist}
 use Rattle.division.specs.Outcome.{outcome}
 use Rattle.division.specs.internal.Left.{cutLeft, Ready}
 use Rattle.division.specs.internal.Allocation.{nothing, allottedAll}
 use Rattle.division.specs.declared.Answer.the-variants.{Divided}
 use Rattle.division.proofs.Outcomes.{items-setOf-bundle}
-use Rattle.division.proofs.rounds.SameRounds.{placedInstance, rounds-standard}
+use Rattle.division.proofs.rounds.SameRounds.{placedInstance, rounds-placed}
 use Rattle.division.proofs.rounds.AllRounds.{getD-setOf, allotted-bundles, allotted-cutters-all}
 
 -- what holds of [] and of each member holds in each place
@@ -64,7 +64,7 @@ module _ (k most : ℕ) (few : k ≤ most) (small : most ≤ mostItems) where
   pub upTo-items : itemsOf (setOf (range 1 k)) ≡ range 1 k
   upTo-items = items-setOf (range 1 k) (range-sublist 1 k setBits (omega arith))
 
-module _ (n m : ℕ) (table : List (List ℕ)) (counts : CountsWithin n m) where
+module _ (n m : ℕ) (table : List (List ℕ)) (terms : Terms) (counts : CountsWithin n m) (allowed : AllowedTerms n terms) where
   -- all agents, as a set
   abbrev pub allAgents : ℕ
   allAgents = setOf (range 1 n)
@@ -81,10 +81,10 @@ module _ (n m : ℕ) (table : List (List ℕ)) (counts : CountsWithin n m) where
 
   -- the rounds of all agents and all items may start
   pub ready-all : (allowance : ℕ) → growths n m ≤ allowance → (shares : List ℕ) → SmallAmounts shares
-      → Ready n shares allowance allAgents allItems nothing
+      → Ready terms shares allowance allAgents allItems nothing
   ready-all allowance enough shares small =
       record {
-        few = counts .few;
+        small-terms = allowed .small;
         small-shares = small;
         cuttable =
             record {
@@ -109,7 +109,7 @@ module _ (n m : ℕ) (table : List (List ℕ)) (counts : CountsWithin n m) where
 
   -- the bundles of the division
   abbrev bundles : List (List ℕ)
-  bundles = allocation n m (standardInstance n m table)
+  bundles = allocation n m (instanceOfTable n m table terms)
 
   -- the same as sets, in their places
   abbrev pub placedSets : List ℕ
@@ -117,20 +117,20 @@ module _ (n m : ℕ) (table : List (List ℕ)) (counts : CountsWithin n m) where
 
   -- the cutters in turn, in their places
   abbrev pub placedCutters : List ℕ
-  placedCutters = padded mostAgents 0 (map (λ r. r .cutter) (allRounds n m (standardInstance n m table)))
+  placedCutters = padded mostAgents 0 (map (λ r. r .cutter) (allRounds n m (instanceOfTable n m table terms)))
 
   bundle-sublist : (i : ℕ) → Sublist (getD bundles i []) (range 1 m)
-  bundle-sublist = getD-holds (λ b. Sublist b (range 1 m)) (nil-sublist (range 1 m)) bundles (allocation-sublist n m (termsFor n) table)
+  bundle-sublist = getD-holds (λ b. Sublist b (range 1 m)) (nil-sublist (range 1 m)) bundles (allocation-sublist n m terms table)
 
   items-at : (i : ℕ) → itemsOf (getD placedSets i 0) ≡ getD bundles i []
   items-at i = ap itemsOf (getD-setOf bundles (mostAgents - length (map setOf bundles)) i) ∙ items-setOf-bundle m (counts .few-items) (bundle-sublist i)
 
   -- what the code's rounds hand out, from nothing
-  pub allotted-accepted : let a = allottedAll (placedInstance n m table counts) (agentsIn allAgents) (itemsOf allItems) nothing in
+  pub allotted-accepted : let a = allottedAll (placedInstance n m table terms counts) (agentsIn allAgents) (itemsOf allItems) nothing in
       (a .bundles ≡ placedSets) × (a .cutters ≡ placedCutters)
   allotted-accepted =
-      let s = sound n m (termsFor n) table (termsFor-at-most-standard n) in
-      rw (agentsIn-all, itemsOf-all, length-range 1 n, rounds-standard n m table counts) (allotted-bundles s (counts .few), allotted-cutters-all s (counts .few))
+      let s = sound n m terms table (allowed .at-most-standard) in
+      rw (agentsIn-all, itemsOf-all, length-range 1 n, rounds-placed n m table terms counts) (allotted-bundles s (counts .few), allotted-cutters-all s (counts .few))
 
   in-use : InUse n m
   in-use = counts-in-use counts
@@ -164,31 +164,31 @@ module _ (n m : ℕ) (table : List (List ℕ)) (counts : CountsWithin n m) where
         ∙ sym (nth-map-range (λ k. valueTo rows bundles k k) 0 n mi)
 
     margin-read : (i : ℕ) → Mem i (range 1 n)
-        → nth (pos 0) (marginsStored n worths placedShares) i ≡ nth (pos 0) (allocationMargins n m (standardInstance n m table)) i
+        → nth (pos 0) (marginsStored n terms worths placedShares) i ≡ nth (pos 0) (allocationMargins n m (instanceOfTable n m table terms)) i
     margin-read i mi =
-        nth-marginsStored n worths placedShares (counts .few) small-worths small-shares mi
-        ∙ ap₂ (margin (termsFor n)) (worth-read i mi) (share-read i mi)
-        ∙ sym (nth-map-range (λ k. margin (termsFor n) (nth 0 (ownValues n rows bundles) k) (nth 0 shares k)) (pos 0) n mi)
+        nth-marginsStored n terms worths placedShares (counts .few) (allowed .small) small-worths small-shares mi
+        ∙ ap₂ (margin terms) (worth-read i mi) (share-read i mi)
+        ∙ sym (nth-map-range (λ k. margin terms (nth 0 (ownValues n rows bundles) k) (nth 0 shares k)) (pos 0) n mi)
 
     -- the grade of what the rounds hand out
-    grade-accepted : gradeIn n m table placedShares (marginsStored n worths placedShares) placedSets
-        ≡ grade n rows shares (allocationMargins n m (standardInstance n m table)) bundles
+    grade-accepted : gradeIn n m table placedShares (marginsStored n terms worths placedShares) placedSets
+        ≡ grade n rows shares (allocationMargins n m (instanceOfTable n m table terms)) bundles
     grade-accepted =
-        gradeIn-within n m table placedShares (marginsStored n worths placedShares) placedSets in-use
-        ∙ grade-cong n rows placedShares shares (marginsStored n worths placedShares) (allocationMargins n m (standardInstance n m table)) (map itemsOf placedSets) bundles
+        gradeIn-within n m table placedShares (marginsStored n terms worths placedShares) placedSets in-use
+        ∙ grade-cong n rows placedShares shares (marginsStored n terms worths placedShares) (allocationMargins n m (instanceOfTable n m table terms)) (map itemsOf placedSets) bundles
         share-read
         margin-read
         (λ i mi. bundle-read i)
 
   -- the code's answer, from what the rounds hand out
   pub outcome-accepted : (g : ℕ) (sets cutters worths : List ℕ) (own : SharesOutcome)
-      → g ≡ gradeIn n m table (own .shares) (marginsStored n worths (own .shares)) sets → worths ≡ worthsIn n m table sets → SmallAmounts worths → SmallAmounts (own .shares)
+      → g ≡ gradeIn n m table (own .shares) (marginsStored n terms worths (own .shares)) sets → worths ≡ worthsIn n m table sets → SmallAmounts worths → SmallAmounts (own .shares)
       → sets ≡ placedSets → cutters ≡ placedCutters → own ≡ sharesOutcome (sharing n m table)
-      → record { answer = Divided g; bundles = sets; shares = own .shares; cuts = own .cuts; cutters = cutters } ≡ outcome (accepted (divisionByRounds n m table))
+      → record { answer = Divided g; bundles = sets; shares = own .shares; cuts = own .cuts; cutters = cutters } ≡ outcome (accepted (divisionOf n m (instanceOfTable n m table terms)))
   unfolding divisionOf
   outcome-accepted g sets cutters worths own graded same-worths small-worths small-shares same-sets same-cutters same-own =
-      let e : g ≡ grade n rows shares (allocationMargins n m (standardInstance n m table)) bundles =
+      let e : g ≡ grade n rows shares (allocationMargins n m (instanceOfTable n m table terms)) bundles =
       graded
-      ∙ ap₂ (λ (o : SharesOutcome) l. gradeIn n m table (o .shares) (marginsStored n worths (o .shares)) l) same-own same-sets
+      ∙ ap₂ (λ (o : SharesOutcome) l. gradeIn n m table (o .shares) (marginsStored n terms worths (o .shares)) l) same-own same-sets
       ∙ grade-accepted worths (same-worths ∙ ap (worthsIn n m table) same-sets) small-worths (subst (λ (o : SharesOutcome). SmallAmounts (o .shares)) same-own small-shares) in
       rw (e, same-sets, same-cutters, same-own, shares-within n m table counts, cuts-within n m table counts)

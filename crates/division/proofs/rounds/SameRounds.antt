@@ -27,10 +27,9 @@ use Rattle.matching.specs.Matching.{servedAgents, cutterOf, bundleNumbers, wait
 use Rattle.matching.proofs.Cutter.{cutterOf-mem}
 use Rattle.matching.proofs.Parts.{waitingOf-cong, chosenOf-cong}
 use Rattle.matching.proofs.Congruence.{Agree}
-use Rattle.terms.specs.Terms.{termsFor}
 use Rattle.terms.specs.declared.Terms.{Terms}
 use Rattle.rounds.specs.Round.{Round, Instance, suits, round, rounds}
-use Rattle.rounds.specs.Division.{standardInstance, allRounds}
+use Rattle.rounds.specs.Division.{instanceOfTable, allRounds}
 use Rattle.rounds.proofs.round.Parts.{cutterCut, cutSuits, waiting-sub, left-sub}
 use Rattle.division.specs.internal.Left.{instanceFrom}
 
@@ -100,17 +99,17 @@ module _ {G H : Instance} where
       ∙ ap (λ q. rounds H most (q .waiting) (q .left)) e)
 
 -- the code's instance, with a share in each of six places, and the definition's
-module _ (n m : ℕ) (table : List (List ℕ)) (counts : CountsWithin n m) where
+module _ (n m : ℕ) (table : List (List ℕ)) (terms : Terms) (counts : CountsWithin n m) where
   abbrev pub placedInstance : Instance
-  placedInstance = instanceFrom (termsFor n) table (outcome (sharing n m table) .shares)
+  placedInstance = instanceFrom terms table (outcome (sharing n m table) .shares)
 
-  alike-standard : Alike placedInstance (standardInstance n m table) (range 1 n) (range 1 m)
-  alike-standard =
+  alike-placed : Alike placedInstance (instanceOfTable n m table terms) (range 1 n) (range 1 m)
+  alike-placed =
       record {
         same-terms = refl;
         same-shares = λ agent i. nth-share n m table counts i ∙ sym (nth-shares n m table i);
         same-values = λ agent i k mk. sym (itemValue-profile n m table i k mk);
       }
 
-  pub rounds-standard : rounds placedInstance n (range 1 n) (range 1 m) ≡ allRounds n m (standardInstance n m table)
-  rounds-standard = rounds-same n (range 1 n) (range 1 m) alike-standard
+  pub rounds-placed : rounds placedInstance n (range 1 n) (range 1 m) ≡ allRounds n m (instanceOfTable n m table terms)
+  rounds-placed = rounds-same n (range 1 n) (range 1 m) alike-placed

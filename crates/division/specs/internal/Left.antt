@@ -11,6 +11,7 @@ use Rattle.growth.specs.Growth.{growths}
 use Rattle.maximin.specs.Share.{maximinPartition}
 use Rattle.serving.specs.Serving.{agentsIn}
 use Rattle.rounds.specs.Round.{Instance}
+use Rattle.terms.specs.Allowed.{SmallTerms}
 use Rattle.terms.specs.declared.Terms.{Terms}
 use Rattle.division.specs.declared.dividing.Allocation.{Allocation}
 
@@ -32,9 +33,9 @@ pub record Cuttable (left set : ℕ) : Type 0 where
 abbrev pub EnoughFor : ℕ → ℕ → ℕ → Type 0
 EnoughFor allowance left set = growths (length (agentsIn left)) (length (itemsOf set)) ≤ allowance
 
--- where the rounds of n agents may start: what they are handed is small enough, no cut is stopped, and there is a place for each round
-pub record Ready (n : ℕ) (shares : List ℕ) (allowance left set : ℕ) (a : Allocation) : Type 0 where
-  pub few : n ≤ mostAgents
+-- where the rounds may start: what they are handed is small enough, no cut is stopped, and there is a place for each round
+pub record Ready (terms : Terms) (shares : List ℕ) (allowance left set : ℕ) (a : Allocation) : Type 0 where
+  pub small-terms : SmallTerms terms
   pub small-shares : SmallAmounts shares
   pub cuttable : Cuttable left set
   pub enough : EnoughFor allowance left set

@@ -13,6 +13,8 @@ use Rattle.sheet.specs.Limits.{mostAgents, mostItems}
 use Rattle.sheet.specs.Sets.{itemsOf}
 use Rattle.sheet.specs.Answers.{Answer, refused, requireSome}
 use Rattle.shares.proofs.Outcomes.{nth-shares-in}
+use Rattle.terms.specs.Terms.{termsFor}
+use Rattle.margins.specs.Margins.{marginsStored}
 use Rattle.grades.specs.Grade.{gradeIn}
 use Rattle.grades.specs.Scale.{marginsByTable, gradeByTable}
 use Rattle.division_reading.specs.Stated.{Stated}
@@ -44,7 +46,7 @@ abbrev sets : tie.After-figures-true → tie.After-bundles-of
 sets c = valued c .before
 
 abbrev start : tie.After-figures-true → tie.Start
-start c = sets c .before .before
+start c = sets c .before .before .before
 
 -- what is stated
 abbrev division : tie.After-figures-true → Stated
@@ -60,6 +62,22 @@ same-items c i mi =
     let a = start c .args in
     ap (λ sets. nth [] (map itemsOf sets) i) (sets c .bundles-of .ensures .0) ∙ nth-bundle (a .agents) (a .stated .grade) (a .stated .lines) mi
 
+-- the terms are those of document 01
+terms-told : (c : tie.After-figures-true) → sets c .before .before .terms-for .result ≡ termsFor (start c .args .agents)
+terms-told c =
+    let n = start c .args .agents in
+    let kept : min n mostAgents ≡ n = omega (arith, start c .pre .counts .few) in
+    sets c .before .before .terms-for .ensures ∙ ap termsFor kept
+
+-- the margins, in their places
+margins-stored : (c : tie.After-figures-true)
+    → let a = start c .args in
+    margined c .margins-of .result ≡ marginsStored (a .agents) (termsFor (a .agents)) (valued c .worths-of .result) (a .shares)
+margins-stored c =
+    let a = start c .args in
+    margined c .margins-of .ensures
+    ∙ ap (λ terms. marginsStored (a .agents) terms (valued c .worths-of .result) (a .shares)) (terms-told c)
+
 -- the margins
 margins-told : (c : tie.After-figures-true)
     → let a = start c .args in
@@ -67,7 +85,7 @@ margins-told : (c : tie.After-figures-true)
 margins-told c =
     let a = start c .args in
     let worths = valued c .worths-of in
-    margined c .margins-of .ensures
+    margins-stored c
     ∙ margins-by-table (a .agents) (a .items) (a .table) (a .shares) (start c .pre) (sets c .bundles-of .result) (bundlesOf (division c)) (same-items c)
     (worths .result) (worths .ensures .0) (worths .ensures .1)
 
@@ -80,7 +98,7 @@ grade-told c =
     let bundles = sets c .bundles-of .result in
     let worths = valued c .worths-of in
     sym (graded c .grade-of .ensures
-    ∙ ap (λ margins. gradeIn (a .agents) (a .items) (a .table) (a .shares) margins bundles) (margined c .margins-of .ensures)
+    ∙ ap (λ margins. gradeIn (a .agents) (a .items) (a .table) (a .shares) margins bundles) (margins-stored c)
     ∙ grade-by-table (a .agents) (a .items) (a .table) (a .shares) (start c .pre) bundles (bundlesOf (division c)) (same-items c)
     (worths .result) (worths .ensures .0) (worths .ensures .1))
 
@@ -148,6 +166,9 @@ answer-read : (c : tie.Else1)
     → let a = start (c .before .before) .args in
     judging (a .agents) (a .items) (a .table) (statedIn (a .agents) (a .stated)) ≡ answer (c .before .before)
 answer-read c = answer-of (c .before .before) true (passed c .0)
+
+terms-for-requires : tie.Need-terms-for-requires
+terms-for-requires c κs = search needs
 
 bundles-of-requires : tie.Need-bundles-of-requires
 bundles-of-requires c κs = search needs
@@ -229,6 +250,7 @@ pub judge-shared-spec : {M : Type 1} → statement M
 judge-shared-spec =
     tie.close
     (tie.spec
+    terms-for-requires
     bundles-of-requires
     worths-of-requires
     margins-of-requires

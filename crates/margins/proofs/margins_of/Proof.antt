@@ -11,19 +11,20 @@ use Rattle.lists.specs.Lists.{range, nth, padded}
 use Rattle.lists.proofs.places.Padding.{padded-range}
 use Rattle.lists.proofs.places.Places.{nth-next}
 use Rattle.sheet.specs.Limits.{mostAgents}
+use Rattle.terms.specs.declared.Terms.{Terms}
 use Rattle.margins.specs.Margins.{marginWithin}
 use Rattle.margins.proofs.margins_of.Statement.{statement}
 use Rattle.margins.proofs.margins_of.Tie as tie
 
 -- the margin of agent k
-abbrev marginAt : ℕ → List ℕ → List ℕ → ℕ → ℤ
-marginAt agents worths shares k = marginWithin agents (nth 0 worths k) (nth 0 shares k)
+abbrev marginAt : Terms → List ℕ → List ℕ → ℕ → ℤ
+marginAt terms worths shares k = marginWithin terms (nth 0 worths k) (nth 0 shares k)
 
 abbrev Inv-loop : tie.InvT-loop
-Inv-loop agents worths shares last margins₀ i₀ margins i = (i ≤ last) × (margins ≡ padded mostAgents (pos 0) (map (marginAt agents worths shares) (range 1 i)))
+Inv-loop agents terms worths shares last margins₀ i₀ margins i = (i ≤ last) × (margins ≡ padded mostAgents (pos 0) (map (marginAt terms worths shares) (range 1 i)))
 
 abbrev μ-loop : tie.MeasureT-loop
-μ-loop agents worths shares last margins₀ i₀ margins i = last - i
+μ-loop agents terms worths shares last margins₀ i₀ margins i = last - i
 
 lesser-requires : tie.Need-lesser-requires Inv-loop μ-loop
 lesser-requires c κs = search needs
@@ -62,16 +63,16 @@ loop-again : tie.Need-loop-again Inv-loop μ-loop
 loop-again c =
     let a = c .before .before .before .before .args in
     let l = c .before .before .loop in
-    let read : c .margin-of .result ≡ marginAt (a .agents) (a .t2) (a .t3) (l .i + 1) =
-    c .margin-of .ensures ∙ ap₂ (marginWithin (a .agents)) (sym (nth-next 0 (a .t2) (l .i))) (sym (nth-next 0 (a .t3) (l .i))) in
-    (omega arith, rw (toZ-ofZ w64 (c .margin-of .result) (record { sfits = c .margin-of .ok }), l .inv .1) (padded-range mostAgents (pos 0) (marginAt (a .agents) (a .t2) (a .t3)) (l .i) (c .margin-of .result) (omega arith) read))
+    let read : c .margin-of .result ≡ marginAt (a .terms) (a .t3) (a .t4) (l .i + 1) =
+    c .margin-of .ensures ∙ ap₂ (marginWithin (a .terms)) (sym (nth-next 0 (a .t3) (l .i))) (sym (nth-next 0 (a .t4) (l .i))) in
+    (omega arith, rw (toZ-ofZ w64 (c .margin-of .result) (record { sfits = c .margin-of .ok }), l .inv .1) (padded-range mostAgents (pos 0) (marginAt (a .terms) (a .t3) (a .t4)) (l .i) (c .margin-of .result) (omega arith) read))
 
 returns : tie.Need-returns Inv-loop μ-loop
 returns c =
     let s = c .before .before in
     let a = s .before .args in
     let e : c .before .loop .i ≡ min (a .agents) mostAgents = omega (arith, s .lesser .ensures) in
-    c .before .loop .inv .1 ∙ ap (λ n. padded mostAgents (pos 0) (map (marginAt (a .agents) (a .t2) (a .t3)) (range 1 n))) e
+    c .before .loop .inv .1 ∙ ap (λ n. padded mostAgents (pos 0) (map (marginAt (a .terms) (a .t3) (a .t4)) (range 1 n))) e
 
 pub margins-of-spec : {M : Type 1} → statement M
 margins-of-spec =

@@ -31,20 +31,20 @@ serve-requires c κs = search needs
 -- what suits whom, the bundles chosen and their sets, by what the round is called with
 module _ (s : tie.Start) where
   abbrev suits-of : ℕ → ℕ → Bool
-  suits-of = bundleSuits (s .args .agents) (s .args .table) (s .args .shares) (s .args .cutter) (s .args .left) (s .args .set) (s .args .partition)
+  suits-of = bundleSuits (s .args .terms) (s .args .table) (s .args .shares) (s .args .cutter) (s .args .left) (s .args .set) (s .args .partition)
 
   abbrev chosen-of : List ℕ
   chosen-of = chosenOf suits-of (s .args .cutter) (agentsIn (s .args .left))
 
   abbrev handed-of : List ℕ
-  handed-of = handedSets (s .args .agents) (s .args .table) (s .args .shares) (s .args .cutter) (s .args .left) (s .args .set) (s .args .partition)
+  handed-of = handedSets (s .args .terms) (s .args .table) (s .args .shares) (s .args .cutter) (s .args .left) (s .args .set) (s .args .partition)
 
 serving-is : (c : tie.After-serve) → let s = c .before .before .before in c .serve .result ≡ servingOf (suits-of s) (s .args .cutter) (agentsIn (s .args .left))
 serving-is c =
     let a = c .before .before .before .args in
     c .serve .ensures
     ∙ ap (λ t. servingOf (suitsOf t) (a .cutter) (agentsIn (a .left)))
-    (c .before .suits-table .ensures ∙ ap (suitsTable (a .agents) (a .table) (a .shares)) (c .before .before .bundle-sets .ensures))
+    (c .before .suits-table .ensures ∙ ap (suitsTable (a .terms) (a .table) (a .shares)) (c .before .before .bundle-sets .ensures))
 
 chosen-is : (c : tie.After-serve) → c .serve .result .chosen ≡ numbered (chosen-of (c .before .before .before))
 unfolding servingOf

@@ -11,7 +11,6 @@ use Rattle.sheet.specs.Limits.{mostAgents}
 use Rattle.sheet.specs.Sets.{itemsOf, setOf}
 use Rattle.sheet.specs.Listed.{numbered, listed}
 use Rattle.sheet.proofs.listing.Listed.{listed-is, count-listed, count-places}
-use Rattle.terms.specs.Terms.{termsFor}
 use Rattle.cut.specs.Outcome.{placed}
 use Rattle.matching.specs.Matching.{cutterOf}
 use Rattle.matching.proofs.Cutter.{cutterOf-mem}
@@ -70,7 +69,7 @@ module _ (t : ℕ) where
   After-given = lts.After-hand-out (claims t) (divide-left-at t) divide-left.Post
 
   abbrev instance : Start → Instance
-  instance s = instanceFrom (termsFor (s .args .agents)) (s .args .table) (s .args .shares)
+  instance s = instanceFrom (s .args .terms) (s .args .table) (s .args .shares)
 
   -- the definition's round
   abbrev this-round : Start → Round
@@ -93,8 +92,8 @@ module _ (t : ℕ) where
       let a = s .args in
       let ready = s .pre .1 .0 in
       c .settle-round .ensures
-      ∙ ap₂ (λ cutter. settledBy (a .agents) (a .table) (a .shares) cutter (a .left) (a .set)) (cutter-is s) (partition-is s)
-      ∙ settled-round (cuttable s) (a .agents) (ready .few) (a .table) (a .shares) (ready .small-shares)
+      ∙ ap₂ (λ cutter. settledBy (a .terms) (a .table) (a .shares) cutter (a .left) (a .set)) (cutter-is s) (partition-is s)
+      ∙ settled-round (cuttable s) (a .terms) (ready .small-terms) (a .table) (a .shares) (ready .small-shares)
 
   served-is : (c : After-round) → c .settle-round .result .served ≡ numbered (this-round (c .before) .served)
   served-is c = ap (λ r. r .served) (settled-is c)
@@ -190,7 +189,7 @@ module _ (t : ℕ) where
         omega (arith, s .pre .0, next, fewer),
         (
           record {
-            few = ready .few;
+            small-terms = ready .small-terms;
             small-shares = ready .small-shares;
             cuttable = next-cuttable at-test;
             enough = next-enough at-test;

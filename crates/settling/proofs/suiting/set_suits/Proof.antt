@@ -12,11 +12,10 @@ use mir.ValLaws.{toZ-ofZ}
 use borrow.Author.Needs.{needs}
 use borrow.Author.Tests.{not-true, not-false}
 use Rattle.lists.proofs.Cases.{below-zero}
-use Rattle.sheet.specs.Limits.{mostAgents, greatestSum}
+use Rattle.sheet.specs.Limits.{greatestSum}
 use Rattle.sheet.specs.Sets.{itemsOf}
 use Rattle.sheet.specs.Valuations.{value}
-use Rattle.terms.specs.Terms.{termsFor}
-use Rattle.margins.specs.Margins.{margin}
+use Rattle.margins.specs.Margins.{margin, termsWithin}
 use Rattle.margins.proofs.Signs.{nonNeg-margin}
 use Rattle.settling.specs.Suiting.{setSuits}
 use Rattle.settling.proofs.suiting.set_suits.Statement.{statement}
@@ -30,10 +29,10 @@ margin-of-requires c κs = search needs
 
 -- the set suits where the margin is not negative
 suits-by-margin : (c : tie.After-margin-of)
-    → let a = c .before .before .args in nonNeg (c .margin-of .result) ≡ setSuits (a .agents) (a .valuation) (a .share) (a .set)
+    → let a = c .before .before .args in nonNeg (c .margin-of .result) ≡ setSuits (a .terms) (a .valuation) (a .share) (a .set)
 suits-by-margin c =
     let a = c .before .before .args in
-    let terms = termsFor (min (a .agents) mostAgents) in
+    let terms = termsWithin (a .terms) in
     let worth = c .before .value-of .result in
     let share = min (a .share) greatestSum in
     let whole : min worth greatestSum ≡ worth = omega (arith, c .before .value-of .ensures .1) in

@@ -14,10 +14,10 @@ use Rattle.settling.proofs.suiting.suits_row.Statement.{statement}
 use Rattle.settling.proofs.suiting.suits_row.Tie as tie
 
 abbrev Inv-loop : tie.InvT-loop
-Inv-loop valuation share agents sets row₀ i₀ row i = Filled (λ c. setSuits agents valuation share (nth 0 sets c)) mostAgents row i
+Inv-loop valuation share terms sets row₀ i₀ row i = Filled (λ c. setSuits terms valuation share (nth 0 sets c)) mostAgents row i
 
 abbrev μ-loop : tie.MeasureT-loop
-μ-loop valuation share agents sets row₀ i₀ row i = mostAgents - i
+μ-loop valuation share terms sets row₀ i₀ row i = mostAgents - i
 
 loop-holds : tie.Need-loop-holds Inv-loop μ-loop
 loop-holds c = record { within = omega arith; places = refl; filled = refl }
@@ -44,7 +44,7 @@ loop-again : tie.Need-loop-again Inv-loop μ-loop
 loop-again c =
     let l = c .before .before .loop in
     let a = c .before .before .before .args in
-    let at : ℕ → Bool = λ k. setSuits (a .agents) (a .valuation) (a .share) (getD (a .t4) k 0) in
+    let at : ℕ → Bool = λ k. setSuits (a .terms) (a .valuation) (a .share) (getD (a .t4) k 0) in
     fill-next _ mostAgents (l .row) (l .i) (l .inv) (c .set-suits .result) (c .set-suits .ensures ∙ ap at (sym (add-sub-cancel (l .i) 1))) (omega arith)
 
 returns : tie.Need-returns Inv-loop μ-loop

@@ -16,10 +16,10 @@ use Rattle.settling.proofs.suiting.suits_table.Statement.{statement}
 use Rattle.settling.proofs.suiting.suits_table.Tie as tie
 
 abbrev Inv-loop : tie.InvT-loop
-Inv-loop agents sets table shares suits₀ i₀ suits i = Filled (λ agent. suitsRow agents (valuation table agent) (nth 0 shares agent) sets) mostAgents suits i
+Inv-loop terms sets table shares suits₀ i₀ suits i = Filled (λ agent. suitsRow terms (valuation table agent) (nth 0 shares agent) sets) mostAgents suits i
 
 abbrev μ-loop : tie.MeasureT-loop
-μ-loop agents sets table shares suits₀ i₀ suits i = mostAgents - i
+μ-loop terms sets table shares suits₀ i₀ suits i = mostAgents - i
 
 loop-holds : tie.Need-loop-holds Inv-loop μ-loop
 loop-holds c = record { within = omega arith; places = refl; filled = refl }
@@ -55,7 +55,7 @@ loop-again : tie.Need-loop-again Inv-loop μ-loop
 loop-again c =
     let l = c .before .before .before .loop in
     let a = c .before .before .before .before .args in
-    let row : ℕ → List Bool = λ k. suitsRow (a .agents) (getD (a .t1) k []) (getD (a .t2) k 0) (a .sets) in
+    let row : ℕ → List Bool = λ k. suitsRow (a .terms) (getD (a .t1) k []) (getD (a .t2) k 0) (a .sets) in
     fill-next _ mostAgents (l .suits) (l .i) (l .inv) (c .suits-row .result) (c .suits-row .ensures ∙ ap row (sym (add-sub-cancel (l .i) 1))) (omega arith)
 
 returns : tie.Need-returns Inv-loop μ-loop
