@@ -65,7 +65,7 @@ fn divide_shared(
     own: shares::Outcome,
 ) -> Outcome
     requires { ⌜ IsShared agents items table terms allowance own ⌝ }
-    ensures { λ r. ⌜ r ≡ outcome (accepted (divisionOf agents items (instanceOfTable agents items table terms))) ⌝ }
+    ensures { λ r. ⌜ r ≡ outcome (accepted (divisionOf agents items (instanceOfTable agents items terms table))) ⌝ }
 {
     let shares = own.shares;
     let cuts = own.cuts;

@@ -22,12 +22,11 @@ use Rattle.shares.proofs.Profile.{nth-shares, shareOf-profile}
 use Rattle.terms.specs.declared.Terms.{Terms}
 use Rattle.margins.specs.Margins.{noneNegative}
 use Rattle.grades.proofs.NoneNegative.{noneNegative-own}
-use Rattle.rounds.specs.Round.{Instance, suits, Round, round, held}
+use Rattle.rounds.specs.Round.{Instance, suits, held}
 use Rattle.rounds.specs.Division.{instanceOf, allRounds, allocation, allocationMargins}
 use Rattle.terms.specs.Allowed.{AtMostStandard}
-use Rattle.rounds.proofs.round.Held.{allSuit-length}
-use Rattle.rounds.proofs.round.Invariant.{Sound, left-all, round-suits}
-use Rattle.rounds.proofs.round.Rounds.{held-sublist, rounds-each, held-suits, held-all}
+use Rattle.rounds.proofs.round.Invariant.{Sound, left-all}
+use Rattle.rounds.proofs.round.Rounds.{held-sublist, held-suits, held-all}
 
 module _ (n m : ℕ) (terms : Terms) (table : List (List ℕ)) where
   -- the places in use of the table
@@ -52,13 +51,6 @@ module _ (n m : ℕ) (terms : Terms) (table : List (List ℕ)) where
   module _ (allowed : AtMostStandard n terms) where
     pub sound : Sound n m G
     sound = record { allowed = allowed; own-shares = λ agent i. nth-shares n m table i ∙ sym (shareOf-profile n m table i) }
-
-    -- in every round there is a bundle for each agent served
-    pub served-each : (r : Round) → Mem r (allRounds n m G) → length (r .bundles) ≡ length (r .served)
-    served-each =
-        rounds-each sound (λ r. length (r .bundles) ≡ length (r .served))
-        (λ agents items some state. allSuit-length (suits G) (round G agents items .served) (round G agents items .bundles) (round-suits sound some state))
-        n (range 1 n) (range 1 m) (left-all n m G)
 
     -- each agent holds a bundle that suits it
     holds-suiting : (agent : ℕ) → Mem agent (range 1 n) → suits G agent (nth [] (allocation n m G) agent) ≡ true

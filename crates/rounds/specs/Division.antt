@@ -27,12 +27,12 @@ abbrev pub instanceOf : ℕ → Terms → List (List ℕ) → Instance
 instanceOf n terms valuations = record { terms = terms; valuations = valuations; shares = map (maximinShare n) valuations }
 
 -- the places in use of a table, by the terms
-abbrev pub instanceOfTable : ℕ → ℕ → List (List ℕ) → Terms → Instance
-instanceOfTable n m table terms = instanceOf n terms (profile n m table)
+abbrev pub instanceOfTable : ℕ → ℕ → Terms → List (List ℕ) → Instance
+instanceOfTable n m terms table = instanceOf n terms (profile n m table)
 
 -- the same by the terms of document 01: for a division they are fixed here and nowhere else
 abbrev pub standardInstance : ℕ → ℕ → List (List ℕ) → Instance
-standardInstance n m table = instanceOfTable n m table (termsFor n)
+standardInstance n m table = instanceOfTable n m (termsFor n) table
 
 module _ (n m : ℕ) (G : Instance) where
   -- the rounds from n agents and the items 1 .. m

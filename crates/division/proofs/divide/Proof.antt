@@ -83,7 +83,7 @@ returns-2 : tie.Need-returns-2
 returns-2 c =
     let a = c .before .before .before .before .before .args in
     let (counts, enough) = shared-within (c .before .before) in
-    let told = c .divide-shared .ensures ∙ ap (λ terms. outcome (accepted (divisionOf (a .agents) (a .items) (instanceOfTable (a .agents) (a .items) (a .table) terms)))) (terms-are (c .before)) in
+    let told = c .divide-shared .ensures ∙ ap (λ terms. outcome (accepted (divisionOf (a .agents) (a .items) (instanceOfTable (a .agents) (a .items) terms (a .table))))) (terms-are (c .before)) in
     answered (a .agents) (a .items) (a .table) (a .allowance) _ _ told (answer-within-limits (a .agents) (a .items) (a .table) (a .allowance) counts enough)
 
 pub divide-spec : {M : Type 1} → statement M

@@ -109,7 +109,7 @@ module _ (n m : ℕ) (table : List (List ℕ)) (terms : Terms) (counts : CountsW
 
   -- the bundles of the division
   abbrev bundles : List (List ℕ)
-  bundles = allocation n m (instanceOfTable n m table terms)
+  bundles = allocation n m (instanceOfTable n m terms table)
 
   -- the same as sets, in their places
   abbrev pub placedSets : List ℕ
@@ -117,7 +117,7 @@ module _ (n m : ℕ) (table : List (List ℕ)) (terms : Terms) (counts : CountsW
 
   -- the cutters in turn, in their places
   abbrev pub placedCutters : List ℕ
-  placedCutters = padded mostAgents 0 (map (λ r. r .cutter) (allRounds n m (instanceOfTable n m table terms)))
+  placedCutters = padded mostAgents 0 (map (λ r. r .cutter) (allRounds n m (instanceOfTable n m terms table)))
 
   bundle-sublist : (i : ℕ) → Sublist (getD bundles i []) (range 1 m)
   bundle-sublist = getD-holds (λ b. Sublist b (range 1 m)) (nil-sublist (range 1 m)) bundles (allocation-sublist n m terms table)
@@ -164,7 +164,7 @@ module _ (n m : ℕ) (table : List (List ℕ)) (terms : Terms) (counts : CountsW
         ∙ sym (nth-map-range (λ k. valueTo rows bundles k k) 0 n mi)
 
     margin-read : (i : ℕ) → Mem i (range 1 n)
-        → nth (pos 0) (marginsStored n terms worths placedShares) i ≡ nth (pos 0) (allocationMargins n m (instanceOfTable n m table terms)) i
+        → nth (pos 0) (marginsStored n terms worths placedShares) i ≡ nth (pos 0) (allocationMargins n m (instanceOfTable n m terms table)) i
     margin-read i mi =
         nth-marginsStored n terms worths placedShares (counts .few) (allowed .small) small-worths small-shares mi
         ∙ ap₂ (margin terms) (worth-read i mi) (share-read i mi)
@@ -172,10 +172,10 @@ module _ (n m : ℕ) (table : List (List ℕ)) (terms : Terms) (counts : CountsW
 
     -- the grade of what the rounds hand out
     grade-accepted : gradeIn n m table placedShares (marginsStored n terms worths placedShares) placedSets
-        ≡ grade n rows shares (allocationMargins n m (instanceOfTable n m table terms)) bundles
+        ≡ grade n rows shares (allocationMargins n m (instanceOfTable n m terms table)) bundles
     grade-accepted =
         gradeIn-within n m table placedShares (marginsStored n terms worths placedShares) placedSets in-use
-        ∙ grade-cong n rows placedShares shares (marginsStored n terms worths placedShares) (allocationMargins n m (instanceOfTable n m table terms)) (map itemsOf placedSets) bundles
+        ∙ grade-cong n rows placedShares shares (marginsStored n terms worths placedShares) (allocationMargins n m (instanceOfTable n m terms table)) (map itemsOf placedSets) bundles
         share-read
         margin-read
         (λ i mi. bundle-read i)
@@ -184,10 +184,10 @@ module _ (n m : ℕ) (table : List (List ℕ)) (terms : Terms) (counts : CountsW
   pub outcome-accepted : (g : ℕ) (sets cutters worths : List ℕ) (own : SharesOutcome)
       → g ≡ gradeIn n m table (own .shares) (marginsStored n terms worths (own .shares)) sets → worths ≡ worthsIn n m table sets → SmallAmounts worths → SmallAmounts (own .shares)
       → sets ≡ placedSets → cutters ≡ placedCutters → own ≡ sharesOutcome (sharing n m table)
-      → record { answer = Divided g; bundles = sets; shares = own .shares; cuts = own .cuts; cutters = cutters } ≡ outcome (accepted (divisionOf n m (instanceOfTable n m table terms)))
+      → record { answer = Divided g; bundles = sets; shares = own .shares; cuts = own .cuts; cutters = cutters } ≡ outcome (accepted (divisionOf n m (instanceOfTable n m terms table)))
   unfolding divisionOf
   outcome-accepted g sets cutters worths own graded same-worths small-worths small-shares same-sets same-cutters same-own =
-      let e : g ≡ grade n rows shares (allocationMargins n m (instanceOfTable n m table terms)) bundles =
+      let e : g ≡ grade n rows shares (allocationMargins n m (instanceOfTable n m terms table)) bundles =
       graded
       ∙ ap₂ (λ (o : SharesOutcome) l. gradeIn n m table (o .shares) (marginsStored n terms worths (o .shares)) l) same-own same-sets
       ∙ grade-accepted worths (same-worths ∙ ap (worthsIn n m table) same-sets) small-worths (subst (λ (o : SharesOutcome). SmallAmounts (o .shares)) same-own small-shares) in

@@ -103,7 +103,7 @@ module _ (n m : ℕ) (table : List (List ℕ)) (terms : Terms) (counts : CountsW
   abbrev pub placedInstance : Instance
   placedInstance = instanceFrom terms table (outcome (sharing n m table) .shares)
 
-  alike-placed : Alike placedInstance (instanceOfTable n m table terms) (range 1 n) (range 1 m)
+  alike-placed : Alike placedInstance (instanceOfTable n m terms table) (range 1 n) (range 1 m)
   alike-placed =
       record {
         same-terms = refl;
@@ -111,5 +111,5 @@ module _ (n m : ℕ) (table : List (List ℕ)) (terms : Terms) (counts : CountsW
         same-values = λ agent i k mk. sym (itemValue-profile n m table i k mk);
       }
 
-  pub rounds-placed : rounds placedInstance n (range 1 n) (range 1 m) ≡ allRounds n m (instanceOfTable n m table terms)
+  pub rounds-placed : rounds placedInstance n (range 1 n) (range 1 m) ≡ allRounds n m (instanceOfTable n m terms table)
   rounds-placed = rounds-same n (range 1 n) (range 1 m) alike-placed
