@@ -20,9 +20,8 @@ use Rattle.sheet.specs.Allocations.{Allocates}
 use Rattle.sheet.proofs.valuing.Tables.{valuation-profile}
 use Rattle.maximin.proofs.Laws.{shares-le-total}
 use Rattle.shares.proofs.Profile.{nth-shares}
-use Rattle.terms.specs.Terms.{termsFor}
+use Rattle.terms.specs.declared.Terms.{Terms}
 use Rattle.margins.specs.Margins.{marginsOf, noneNegative}
-use Rattle.terms.proofs.TermsFor.{top-le-bottom}
 use Rattle.grades.specs.Grade.{ownValues, valueTo, envyFree, proportional, maximinFair}
 use Rattle.grades.specs.Scale.{sharesOf}
 use Rattle.grades.proofs.NoneNegative.{noneNegative-own}
@@ -78,10 +77,10 @@ module _ (n m : ℕ) (table bundles : List (List ℕ)) where
           ) in
           le-of-mul-le-mul-left multiples some
 
-  -- no more than the whole share is promised
-  pub maximinFair-noneNegative : (shares : List ℕ) → maximinFair n rows shares bundles ≡ true
-      → noneNegative n (marginsOf n (termsFor n) (ownValues n rows bundles) shares) ≡ true
+  -- by terms that promise no more than the whole share
+  pub maximinFair-noneNegative : (terms : Terms) (shares : List ℕ) → terms .top ≤ terms .bottom → maximinFair n rows shares bundles ≡ true
+      → noneNegative n (marginsOf n terms (ownValues n rows bundles) shares) ≡ true
   unfolding maximinFair
-  maximinFair-noneNegative shares fair =
-      noneNegative-own n (termsFor n) rows bundles shares
-      ∙ mem-all _ (range 1 n) (λ i mi. le-leb _ _ (mul-le-mul (top-le-bottom n) (leb-true (nth 0 shares i) (seen i i) (all-mem _ fair mi))))
+  maximinFair-noneNegative terms shares whole fair =
+      noneNegative-own n terms rows bundles shares
+      ∙ mem-all _ (range 1 n) (λ i mi. le-leb _ _ (mul-le-mul whole (leb-true (nth 0 shares i) (seen i i) (all-mem _ fair mi))))

@@ -14,9 +14,13 @@ use Rattle.lists.proofs.Cases.{lt-or-ge}
 use Rattle.lists.proofs.ranges.Ranges.{in-range, nth-map-range}
 use Rattle.sheet.specs.Tables.{profile}
 use Rattle.sheet.specs.Allocations.{Allocates}
+use Rattle.terms.specs.Terms.{termsFor}
+use Rattle.terms.specs.Allowed.{AtMostStandard}
+use Rattle.terms.specs.declared.Terms.{Terms}
+use Rattle.terms.proofs.Allowed.{at-most-whole, termsFor-at-most-standard}
 use Rattle.margins.specs.Margins.{noneNegative}
 use Rattle.grades.specs.Grade.{envyFree, proportional, maximinFair, grade}
-use Rattle.grades.specs.Scale.{sharesOf, marginsByTable, passes, gradeByTable}
+use Rattle.grades.specs.Scale.{sharesOf, marginsByTerms, passesByTerms, gradeByTerms, passes, gradeByTable}
 use Rattle.grades.proofs.Grades.{first, first-bounds}
 use Rattle.grades.proofs.Implied.{envyFree-proportional, proportional-maximinFair, maximinFair-noneNegative}
 
@@ -37,25 +41,35 @@ nth-from-first a b c d ab bc cd g some =
     (λ ge. List·getD-eq-default (map (leb (first a b c d)) (range 1 4)) true {n = g - 1} (omega arith) ∙ sym (le-leb (first a b c d) g (omega (arith, first-bounds a b c d))))
     (lt-or-ge g 5)
 
-module _ (n m : ℕ) (table bundles : List (List ℕ)) (allocates : Allocates n m bundles) where
+-- by any terms that promise no more than document 01
+module _ (n m : ℕ) (table : List (List ℕ)) (terms : Terms) (bundles : List (List ℕ)) (allowed : AtMostStandard n terms) (allocates : Allocates n m bundles) where
   -- it passes the test for g exactly where its grade is at most g
-  pub passes-from-grade : (g : ℕ) → 1 ≤ g → passes n m table bundles g ≡ leb (gradeByTable n m table bundles) g
+  pub passesByTerms-from-grade : (g : ℕ) → 1 ≤ g → passesByTerms n m table terms bundles g ≡ leb (gradeByTerms n m table terms bundles) g
   unfolding grade
-  passes-from-grade =
+  passesByTerms-from-grade =
       nth-from-first
       (envyFree n (profile n m table) bundles)
       (proportional n (profile n m table) bundles)
       (maximinFair n (profile n m table) (sharesOf n m table) bundles)
-      (noneNegative n (marginsByTable n m table bundles))
+      (noneNegative n (marginsByTerms n m table terms bundles))
       (envyFree-proportional n m table bundles allocates)
       (proportional-maximinFair n m table bundles)
-      (maximinFair-noneNegative n m table bundles (sharesOf n m table))
+      (maximinFair-noneNegative n m table bundles terms (sharesOf n m table) (at-most-whole allowed))
 
   -- what passes a test passes all those after it
+  pub passesByTerms-later : (g h : ℕ) → 1 ≤ g → g ≤ h → passesByTerms n m table terms bundles g ≡ true → passesByTerms n m table terms bundles h ≡ true
+  passesByTerms-later g h some later passed =
+      let graded = gradeByTerms n m table terms bundles in
+      passesByTerms-from-grade h (omega arith)
+      ∙ le-leb graded h (omega (arith, leb-true graded g (sym (passesByTerms-from-grade g some) ∙ passed)))
+
+-- by those of document 01
+module _ (n m : ℕ) (table bundles : List (List ℕ)) (allocates : Allocates n m bundles) where
+  pub passes-from-grade : (g : ℕ) → 1 ≤ g → passes n m table bundles g ≡ leb (gradeByTable n m table bundles) g
+  passes-from-grade = passesByTerms-from-grade n m table (termsFor n) bundles (termsFor-at-most-standard n) allocates
+
   pub passes-later : (g h : ℕ) → 1 ≤ g → g ≤ h → passes n m table bundles g ≡ true → passes n m table bundles h ≡ true
-  passes-later g h some later passed =
-      passes-from-grade h (omega arith)
-      ∙ le-leb (gradeByTable n m table bundles) h (omega (arith, leb-true (gradeByTable n m table bundles) g (sym (passes-from-grade g some) ∙ passed)))
+  passes-later = passesByTerms-later n m table (termsFor n) bundles (termsFor-at-most-standard n) allocates
 
   -- "a grade 1 division passes the tests for 2 and 3"
   pub grade-1-passes-2-and-3 : gradeByTable n m table bundles ≡ 1 → (passes n m table bundles 2 ≡ true) × (passes n m table bundles 3 ≡ true)

@@ -7,6 +7,7 @@ use Rattle.lists.specs.Lists.{nth}
 use Rattle.sheet.specs.Tables.{profile}
 use Rattle.maximin.specs.Share.{maximinShare}
 use Rattle.terms.specs.Terms.{termsFor}
+use Rattle.terms.specs.declared.Terms.{Terms}
 use Rattle.margins.specs.Margins.{marginsOf, noneNegative}
 use Rattle.grades.specs.Grade.{ownValues, envyFree, proportional, maximinFair, grade}
 
@@ -15,10 +16,10 @@ module _ (n m : ℕ) (table : List (List ℕ)) where
   abbrev pub sharesOf : List ℕ
   sharesOf = map (maximinShare n) (profile n m table)
 
-  module _ (bundles : List (List ℕ)) where
-    -- the margin of each agent, by the terms of document 01
-    abbrev pub marginsByTable : List ℤ
-    marginsByTable = marginsOf n (termsFor n) (ownValues n (profile n m table) bundles) sharesOf
+  module _ (terms : Terms) (bundles : List (List ℕ)) where
+    -- the margin of each agent, by the terms
+    abbrev pub marginsByTerms : List ℤ
+    marginsByTerms = marginsOf n terms (ownValues n (profile n m table) bundles) sharesOf
 
     -- "the tests for" 1, 2, 3 and 4: no envy, even, the whole share, no margin below zero
     abbrev pub tests : List Bool
@@ -26,13 +27,24 @@ module _ (n m : ℕ) (table : List (List ℕ)) where
         envyFree n (profile n m table) bundles
         ∷ proportional n (profile n m table) bundles
         ∷ maximinFair n (profile n m table) sharesOf bundles
-        ∷ noneNegative n marginsByTable
+        ∷ noneNegative n marginsByTerms
         ∷ []
 
     -- whether the allocation passes the test for grade g, from 1 on; 5 asks for nothing
-    abbrev pub passes : ℕ → Bool
-    passes g = nth true tests g
+    abbrev pub passesByTerms : ℕ → Bool
+    passesByTerms g = nth true tests g
 
-    -- the grade of the allocation, by the marks of the table alone
+    -- the grade of the allocation, by the marks of the table and the terms
+    abbrev pub gradeByTerms : ℕ
+    gradeByTerms = grade n (profile n m table) sharesOf marginsByTerms bundles
+
+  -- the same by the terms of document 01, so by the table alone: for margins and grades they are fixed here and nowhere else
+  module _ (bundles : List (List ℕ)) where
+    abbrev pub marginsByTable : List ℤ
+    marginsByTable = marginsByTerms (termsFor n) bundles
+
+    abbrev pub passes : ℕ → Bool
+    passes = passesByTerms (termsFor n) bundles
+
     abbrev pub gradeByTable : ℕ
-    gradeByTable = grade n (profile n m table) sharesOf marginsByTable bundles
+    gradeByTable = gradeByTerms (termsFor n) bundles
