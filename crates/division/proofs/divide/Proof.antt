@@ -11,7 +11,7 @@ use Rattle.growth.specs.Growth.{growths}
 use Rattle.shares.specs.Shares.{sharingWithin}
 use Rattle.shares.specs.Outcome as shares
 use Rattle.shares.proofs.Allowance.{sharingWithin-enough}
-use Rattle.shares.proofs.Outcomes.{answered-refused, answered-shared-within}
+use Rattle.shares.proofs.Outcomes.{answered-refused, answered-shared-within, shares-within, cuts-within}
 use Rattle.terms.specs.Terms.{termsFor}
 use Rattle.terms.proofs.Allowed.{termsFor-allowed}
 use Rattle.rounds.specs.Division.{Division, instanceOfTable, divisionOf, answer}
@@ -63,12 +63,17 @@ divide-shared-requires c κs =
     let a = c .before .before .before .before .args in
     let own = c .before .before .before .share-each-within in
     let (counts, enough) = shared-within (c .before) in
+    let is-shared = own .ensures .0 ∙ ap shares.outcome (sharingWithin-enough (a .agents) (a .items) (a .table) (a .allowance) enough) in
     record {
-      counts = counts;
+      known =
+          record {
+            counts = counts;
+            each = ap (λ o. o .shares) is-shared ∙ shares-within (a .agents) (a .items) (a .table) counts;
+            small = own .ensures .1;
+          };
+      own-cuts = ap (λ o. o .cuts) is-shared ∙ cuts-within (a .agents) (a .items) (a .table) counts;
       allowed = rw (terms-are c) (termsFor-allowed (a .agents) (counts .few));
       enough = enough;
-      own-shares = own .ensures .0 ∙ ap shares.outcome (sharingWithin-enough (a .agents) (a .items) (a .table) (a .allowance) enough);
-      small-shares = own .ensures .1;
     }
 
 returns : tie.Need-returns

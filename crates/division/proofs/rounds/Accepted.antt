@@ -1,6 +1,6 @@
 -- A table that is not refused: where its rounds start, what they hand out, and the grade of that. Assumes nothing.
-use mathlib.Core.Path.{_≡_, refl, sym, ap, ap₂, subst, _∙_}
-use mathlib.Core.List.{List, [], _∷_, map, map-map, List·Memᴰ as Mem, List·Memᴰ·head as here, List·Memᴰ·tail as there}
+use mathlib.Core.Path.{_≡_, refl, sym, ap, ap₂, _∙_}
+use mathlib.Core.List.{List, [], _∷_, map, List·Memᴰ as Mem, List·Memᴰ·head as here, List·Memᴰ·tail as there}
 use mathlib.Core.List.{Sublistᴰ as Sublist, Sublistᴰ·nil-sublist as nil-sublist}
 use Prim.Native.Nat.{ℕ, zero, suc, _-_, _^_, _≤_, _<_, min}
 use native.Mathlib.Omega.{arith}
@@ -14,36 +14,33 @@ use Rattle.sheet.proofs.Limits.{counts-in-use}
 use Rattle.sheet.specs.Answers.{accepted}
 use Rattle.sheet.specs.Sets.{itemsOf, setOf}
 use Rattle.sheet.specs.Valuations.{value}
-use Rattle.sheet.specs.Tables.{valuation, allValues, profile}
+use Rattle.sheet.specs.Tables.{valuation, profile}
 use Rattle.sheet.specs.Amounts.{SmallAmounts}
 use Rattle.sheet.proofs.sets.Sets.{items-setOf}
 use Rattle.sheet.proofs.sets.Ranges.{setOf-below}
-use Rattle.growth.specs.Growth.{growths}
-use Rattle.maximin.specs.Share.{maximinShare, maximinPartition}
+use Rattle.maximin.specs.Share.{maximinShare}
 use Rattle.cut.specs.Outcome.{placed}
-use Rattle.shares.specs.Shares.{sharing}
-use Rattle.shares.specs.Outcome.{cutOf, blankCut, outcome as sharesOutcome}
+use Rattle.shares.specs.Outcome.{blankCut}
 use Rattle.shares.specs.declared.Cut.{Cut}
 use Rattle.shares.specs.declared.Outcome.{Outcome as SharesOutcome}
-use Rattle.shares.proofs.Profile.{nth-shares}
-use Rattle.shares.proofs.Outcomes.{shares-within, cuts-within, nth-share}
+use Rattle.shares.proofs.EachAgent.{cutAt, cuts-range}
 use Rattle.grades.specs.Grade.{ownValues, valueTo, grade, worthsIn, gradeIn}
 use Rattle.grades.proofs.InPlaces.{nth-worthsIn}
 use Rattle.margins.proofs.Stored.{nth-marginsStored}
 use Rattle.grades.proofs.Grades.{grade-cong, gradeIn-within}
 use Rattle.serving.specs.Serving.{agentsIn}
 use Rattle.serving.proofs.round.AgentsLeft.{agentsIn-items}
-use Rattle.terms.specs.Allowed.{AllowedTerms}
 use Rattle.terms.specs.declared.Terms.{Terms}
 use Rattle.margins.specs.Margins.{margin, marginsStored}
 use Rattle.rounds.specs.Division.{instanceOfTable, allRounds, allocation, allocationMargins, divisionOf}
 use Rattle.rounds.proofs.Allocation.{sound, allocation-sublist}
 use Rattle.division.specs.Outcome.{outcome}
-use Rattle.division.specs.internal.Left.{cutLeft, Ready}
+use Rattle.division.specs.internal.Left.{instanceFrom, cutLeft, Ready}
 use Rattle.division.specs.internal.Allocation.{nothing, allottedAll}
+use Rattle.division.specs.internal.Shared.{IsShared}
 use Rattle.division.specs.declared.Answer.the-variants.{Divided}
 use Rattle.division.proofs.Outcomes.{items-setOf-bundle}
-use Rattle.division.proofs.rounds.SameRounds.{placedInstance, rounds-placed}
+use Rattle.division.proofs.rounds.SameRounds.{same-shares, rounds-placed}
 use Rattle.division.proofs.rounds.AllRounds.{getD-setOf, allotted-bundles, allotted-cutters-all}
 
 -- what holds of [] and of each member holds in each place
@@ -64,7 +61,11 @@ module _ (k most : ℕ) (few : k ≤ most) (small : most ≤ mostItems) where
   pub upTo-items : itemsOf (setOf (range 1 k)) ≡ range 1 k
   upTo-items = items-setOf (range 1 k) (range-sublist 1 k setBits (omega arith))
 
-module _ (n m : ℕ) (table : List (List ℕ)) (terms : Terms) (counts : CountsWithin n m) (allowed : AllowedTerms n terms) where
+module _ {n m : ℕ} {table : List (List ℕ)} {terms : Terms} {allowance : ℕ} {own : SharesOutcome} (shared : IsShared n m table terms allowance own) where
+  -- the counts are within the limits
+  counts : CountsWithin n m
+  counts = shared .known .counts
+
   -- all agents, as a set
   abbrev pub allAgents : ℕ
   allAgents = setOf (range 1 n)
@@ -80,32 +81,26 @@ module _ (n m : ℕ) (table : List (List ℕ)) (terms : Terms) (counts : CountsW
   itemsOf-all = upTo-items m mostItems (counts .few-items) (omega arith)
 
   -- the rounds of all agents and all items may start
-  pub ready-all : (allowance : ℕ) → growths n m ≤ allowance → (shares : List ℕ) → SmallAmounts shares
-      → Ready terms shares allowance allAgents allItems nothing
-  ready-all allowance enough shares small =
+  pub ready-all : Ready terms (own .shares) allowance allAgents allItems nothing
+  ready-all =
       record {
-        small-terms = allowed .small;
-        small-shares = small;
+        small-terms = shared .allowed .small;
+        small-shares = shared .known .small;
         cuttable =
             record {
               small-left = upTo-below n mostAgents (counts .few) (omega arith);
               some-left = omega (arith, ap length agentsIn-all, length-range 1 n, counts .some);
               small-set = upTo-below m mostItems (counts .few-items) (omega arith);
             };
-        enough = rw (agentsIn-all, itemsOf-all, length-range 1 n, length-range 1 m) enough;
+        enough = rw (agentsIn-all, itemsOf-all, length-range 1 n, length-range 1 m) (shared .enough);
         places = omega (arith, ap length agentsIn-all, length-range 1 n, counts .few);
       }
 
   -- each agent's own cut is the partition of the first round, where that agent cuts
   pub own-cut : (other : Cut) (cutter : ℕ) → Mem cutter (range 1 n)
-      → nth other (sharesOutcome (sharing n m table) .cuts) cutter .partition ≡ placed (cutLeft table cutter (agentsIn allAgents) (itemsOf allItems))
-  unfolding profile
+      → nth other (own .cuts) cutter .partition ≡ placed (cutLeft table cutter (agentsIn allAgents) (itemsOf allItems))
   own-cut other cutter i =
-      let row : ℕ → List ℕ = λ k. allValues m (valuation table k) in
-      let own : ℕ → Cut = λ k. cutOf (maximinPartition n (row k)) in
-      let each : map cutOf (map (maximinPartition n) (profile n m table)) ≡ map own (range 1 n) =
-      ap (map cutOf) (map-map (maximinPartition n) row (range 1 n)) ∙ map-map cutOf (λ k. maximinPartition n (row k)) (range 1 n) in
-      rw (cuts-within n m table counts, agentsIn-all, itemsOf-all, length-range 1 n, each) (ap (λ c. c .partition) (nth-padded-range mostAgents blankCut other own n i))
+      rw (shared .own-cuts, cuts-range n m table, agentsIn-all, itemsOf-all, length-range 1 n) (ap (λ c. c .partition) (nth-padded-range mostAgents blankCut other (cutAt n m table) n i))
 
   -- the bundles of the division
   abbrev bundles : List (List ℕ)
@@ -126,11 +121,11 @@ module _ (n m : ℕ) (table : List (List ℕ)) (terms : Terms) (counts : CountsW
   items-at i = ap itemsOf (getD-setOf bundles (mostAgents - length (map setOf bundles)) i) ∙ items-setOf-bundle m (counts .few-items) (bundle-sublist i)
 
   -- what the code's rounds hand out, from nothing
-  pub allotted-accepted : let a = allottedAll (placedInstance n m table terms counts) (agentsIn allAgents) (itemsOf allItems) nothing in
+  pub allotted-accepted : let a = allottedAll (instanceFrom terms table (own .shares)) (agentsIn allAgents) (itemsOf allItems) nothing in
       (a .bundles ≡ placedSets) × (a .cutters ≡ placedCutters)
   allotted-accepted =
-      let s = sound n m terms table (allowed .at-most-standard) in
-      rw (agentsIn-all, itemsOf-all, length-range 1 n, rounds-placed n m table terms counts) (allotted-bundles s (counts .few), allotted-cutters-all s (counts .few))
+      let s = sound n m terms table (shared .allowed .at-most-standard) in
+      rw (agentsIn-all, itemsOf-all, length-range 1 n, rounds-placed (shared .known) terms) (allotted-bundles s (counts .few), allotted-cutters-all s (counts .few))
 
   in-use : InUse n m
   in-use = counts-in-use counts
@@ -139,22 +134,16 @@ module _ (n m : ℕ) (table : List (List ℕ)) (terms : Terms) (counts : CountsW
   abbrev rows : List (List ℕ)
   rows = profile n m table
 
-  -- the shares in their places, and agent after agent
-  abbrev placedShares : List ℕ
-  placedShares = sharesOutcome (sharing n m table) .shares
-
+  -- the shares, agent after agent
   abbrev shares : List ℕ
   shares = map (maximinShare n) rows
 
-  -- the bundle and the share of an agent, read from their places
+  -- the bundle of an agent, read from its place
   bundle-read : (i : ℕ) → nth [] (map itemsOf placedSets) i ≡ nth [] bundles i
   unfolding itemsOf
   bundle-read i = List·getD-map itemsOf placedSets (i - 1) 0 ∙ items-at (i - 1)
 
-  share-read : (i : ℕ) → Mem i (range 1 n) → nth 0 placedShares i ≡ nth 0 shares i
-  share-read i mi = nth-share n m table counts mi ∙ sym (nth-shares n m table mi)
-
-  module _ (worths : List ℕ) (same-worths : worths ≡ worthsIn n m table placedSets) (small-worths : SmallAmounts worths) (small-shares : SmallAmounts placedShares) where
+  module _ (worths : List ℕ) (same-worths : worths ≡ worthsIn n m table placedSets) (small-worths : SmallAmounts worths) where
     -- the worth of an agent's bundle, and its margin
     worth-read : (i : ℕ) → Mem i (range 1 n) → nth 0 worths i ≡ nth 0 (ownValues n rows bundles) i
     worth-read i mi =
@@ -164,31 +153,31 @@ module _ (n m : ℕ) (table : List (List ℕ)) (terms : Terms) (counts : CountsW
         ∙ sym (nth-map-range (λ k. valueTo rows bundles k k) 0 n mi)
 
     margin-read : (i : ℕ) → Mem i (range 1 n)
-        → nth (pos 0) (marginsStored n terms worths placedShares) i ≡ nth (pos 0) (allocationMargins n m (instanceOfTable n m terms table)) i
+        → nth (pos 0) (marginsStored n terms worths (own .shares)) i ≡ nth (pos 0) (allocationMargins n m (instanceOfTable n m terms table)) i
     margin-read i mi =
-        nth-marginsStored n terms worths placedShares (counts .few) (allowed .small) small-worths small-shares mi
-        ∙ ap₂ (margin terms) (worth-read i mi) (share-read i mi)
+        nth-marginsStored n terms worths (own .shares) (counts .few) (shared .allowed .small) small-worths (shared .known .small) mi
+        ∙ ap₂ (margin terms) (worth-read i mi) (same-shares (shared .known) mi)
         ∙ sym (nth-map-range (λ k. margin terms (nth 0 (ownValues n rows bundles) k) (nth 0 shares k)) (pos 0) n mi)
 
     -- the grade of what the rounds hand out
-    grade-accepted : gradeIn n m table placedShares (marginsStored n terms worths placedShares) placedSets
+    grade-accepted : gradeIn n m table (own .shares) (marginsStored n terms worths (own .shares)) placedSets
         ≡ grade n rows shares (allocationMargins n m (instanceOfTable n m terms table)) bundles
     grade-accepted =
-        gradeIn-within n m table placedShares (marginsStored n terms worths placedShares) placedSets in-use
-        ∙ grade-cong n rows placedShares shares (marginsStored n terms worths placedShares) (allocationMargins n m (instanceOfTable n m terms table)) (map itemsOf placedSets) bundles
-        share-read
+        gradeIn-within n m table (own .shares) (marginsStored n terms worths (own .shares)) placedSets in-use
+        ∙ grade-cong n rows (own .shares) shares (marginsStored n terms worths (own .shares)) (allocationMargins n m (instanceOfTable n m terms table)) (map itemsOf placedSets) bundles
+        (λ i mi. same-shares (shared .known) mi)
         margin-read
         (λ i mi. bundle-read i)
 
   -- the code's answer, from what the rounds hand out
-  pub outcome-accepted : (g : ℕ) (sets cutters worths : List ℕ) (own : SharesOutcome)
-      → g ≡ gradeIn n m table (own .shares) (marginsStored n terms worths (own .shares)) sets → worths ≡ worthsIn n m table sets → SmallAmounts worths → SmallAmounts (own .shares)
-      → sets ≡ placedSets → cutters ≡ placedCutters → own ≡ sharesOutcome (sharing n m table)
+  pub outcome-accepted : (g : ℕ) (sets cutters worths : List ℕ)
+      → g ≡ gradeIn n m table (own .shares) (marginsStored n terms worths (own .shares)) sets → worths ≡ worthsIn n m table sets → SmallAmounts worths
+      → sets ≡ placedSets → cutters ≡ placedCutters
       → record { answer = Divided g; bundles = sets; shares = own .shares; cuts = own .cuts; cutters = cutters } ≡ outcome (accepted (divisionOf n m (instanceOfTable n m terms table)))
   unfolding divisionOf
-  outcome-accepted g sets cutters worths own graded same-worths small-worths small-shares same-sets same-cutters same-own =
+  outcome-accepted g sets cutters worths graded same-worths small-worths same-sets same-cutters =
       let e : g ≡ grade n rows shares (allocationMargins n m (instanceOfTable n m terms table)) bundles =
       graded
-      ∙ ap₂ (λ (o : SharesOutcome) l. gradeIn n m table (o .shares) (marginsStored n terms worths (o .shares)) l) same-own same-sets
-      ∙ grade-accepted worths (same-worths ∙ ap (worthsIn n m table) same-sets) small-worths (subst (λ (o : SharesOutcome). SmallAmounts (o .shares)) same-own small-shares) in
-      rw (e, same-sets, same-cutters, same-own, shares-within n m table counts, cuts-within n m table counts)
+      ∙ ap (gradeIn n m table (own .shares) (marginsStored n terms worths (own .shares))) same-sets
+      ∙ grade-accepted worths (same-worths ∙ ap (worthsIn n m table) same-sets) small-worths in
+      rw (e, same-sets, same-cutters, shared .known .each, shared .own-cuts)
