@@ -16,8 +16,7 @@ use Rattle.sheet.specs.Tables.{valuation, profile}
 use Rattle.sheet.specs.Amounts.{SmallAmounts}
 use Rattle.sheet.proofs.Limits.{counts-in-use}
 use Rattle.shares.specs.Known.{SharesIn}
-use Rattle.shares.proofs.Profile.{nth-shares}
-use Rattle.shares.proofs.Outcomes.{nth-shares-in}
+use Rattle.shares.proofs.Outcomes.{nth-shares-known}
 use Rattle.terms.specs.Terms.{termsFor}
 use Rattle.terms.proofs.Allowed.{termsFor-small}
 use Rattle.margins.specs.Margins.{margin, marginWithin, marginsStored}
@@ -28,9 +27,6 @@ use Rattle.margins.proofs.Stored.{nth-marginsStored}
 use Rattle.grades.proofs.Grades.{grade-cong, gradeIn-within}
 
 module _ (n m : ℕ) (table : List (List ℕ)) (shares : List ℕ) (shared : SharesIn n m table shares) where
-  share-by-table : {i : ℕ} → Mem i (range 1 n) → nth 0 shares i ≡ nth 0 (sharesOf n m table) i
-  share-by-table mi = nth-shares-in shared mi ∙ sym (nth-shares n m table mi)
-
   -- the sets of the agents in use have the items of their bundles
   module _ (sets : List ℕ) (bundles : List (List ℕ)) (same : (i : ℕ) → Mem i (range 1 n) → nth [] (map itemsOf sets) i ≡ nth [] bundles i) where
     worth-by-table : {i : ℕ} → Mem i (range 1 n) → nth 0 (worthsIn n m table sets) i ≡ nth 0 (ownValues n (profile n m table) bundles) i
@@ -44,7 +40,7 @@ module _ (n m : ℕ) (table : List (List ℕ)) (shares : List ℕ) (shared : Sha
           → nth (pos 0) (marginsStored n (termsFor n) worths shares) i ≡ margin (termsFor n) (nth 0 (ownValues n (profile n m table) bundles) i) (nth 0 (sharesOf n m table) i)
       margin-by-table i mi =
           nth-marginsStored n (termsFor n) worths shares (shared .counts .few) (termsFor-small n (shared .counts .few)) small (shared .small) mi
-          ∙ ap₂ (margin (termsFor n)) (ap (λ l. nth 0 l i) own ∙ worth-by-table mi) (share-by-table mi)
+          ∙ ap₂ (margin (termsFor n)) (ap (λ l. nth 0 l i) own ∙ worth-by-table mi) (nth-shares-known shared mi)
 
       -- the margins in their places
       pub margins-by-table : marginsStored n (termsFor n) worths shares ≡ padded mostAgents (pos 0) (marginsByTable n m table bundles)
@@ -62,6 +58,6 @@ module _ (n m : ℕ) (table : List (List ℕ)) (shares : List ℕ) (shared : Sha
       grade-by-table =
           gradeIn-within n m table shares (marginsStored n (termsFor n) worths shares) sets (counts-in-use (shared .counts))
           ∙ grade-cong n (profile n m table) shares (sharesOf n m table) (marginsStored n (termsFor n) worths shares) (marginsByTable n m table bundles) (map itemsOf sets) bundles
-          (λ i mi. share-by-table mi)
+          (λ i mi. nth-shares-known shared mi)
           (λ i mi. margin-by-table i mi ∙ sym (nth-map-range (λ i. margin (termsFor n) (nth 0 (ownValues n (profile n m table) bundles) i) (nth 0 (sharesOf n m table) i)) (pos 0) n mi))
           same

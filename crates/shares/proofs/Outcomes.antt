@@ -18,7 +18,8 @@ use Rattle.shares.specs.Known.{SharesIn}
 use Rattle.shares.specs.declared.Answer.the-variants.{Refused, Shared}
 use Rattle.shares.proofs.Refusals.{sharing-within, sharing-cases}
 use Rattle.shares.proofs.Allowance.{sharingWithin-cases}
-use Rattle.shares.proofs.EachAgent.{sharedAs, cutAt, shares-range, outcome-each, outcome-range}
+use Rattle.shares.proofs.EachAgent.{sharedAs, shares-range, outcome-each}
+use Rattle.shares.proofs.Profile.{nth-shares}
 
 -- the code's answer is a refusal only where the answer is
 pub answered-refused : (a : Answer (List Cutting)) (number : ℕ) → outcome a .answer ≡ Refused number → a ≡ refused number
@@ -47,27 +48,18 @@ module _ (n m : ℕ) (table : List (List ℕ)) where
     pub outcome-within : outcome (sharing n m table) ≡ sharedAs (map (maximinShare n) (profile n m table)) (map cutOf (map (maximinPartition n) (profile n m table)))
     outcome-within = ap outcome (sharing-within n m table counts) ∙ outcome-each n m table
 
-    pub answer-within : outcome (sharing n m table) .answer ≡ Shared
-    answer-within = ap (λ o. o .answer) outcome-within
-
     pub shares-within : outcome (sharing n m table) .shares ≡ padded mostAgents 0 (map (maximinShare n) (profile n m table))
     shares-within = ap (λ o. o .shares) outcome-within
 
     pub cuts-within : outcome (sharing n m table) .cuts ≡ padded mostAgents blankCut (map cutOf (map (maximinPartition n) (profile n m table)))
     cuts-within = ap (λ o. o .cuts) outcome-within
 
-    by-number : outcome (sharing n m table) ≡ sharedAs (map (shareOf n m table) (range 1 n)) (map (cutAt n m table) (range 1 n))
-    by-number = ap outcome (sharing-within n m table counts) ∙ outcome-range n m table
-
-    -- the share and the cut of an agent in use
-    pub nth-share : {agent : ℕ} → Mem agent (range 1 n) → nth 0 (outcome (sharing n m table) .shares) agent ≡ shareOf n m table agent
-    nth-share {agent} in-use = ap (λ o. nth 0 (o .shares) agent) by-number ∙ nth-padded-range mostAgents 0 0 (shareOf n m table) n in-use
-
-    pub nth-cut : {agent : ℕ} → Mem agent (range 1 n) → nth blankCut (outcome (sharing n m table) .cuts) agent ≡ cutAt n m table agent
-    nth-cut {agent} in-use = ap (λ o. nth blankCut (o .cuts) agent) by-number ∙ nth-padded-range mostAgents blankCut blankCut (cutAt n m table) n in-use
-
 -- the share of an agent in use, where the shares are known
-pub nth-shares-in : {n m : ℕ} {table : List (List ℕ)} {shares : List ℕ} → SharesIn n m table shares → {agent : ℕ} → Mem agent (range 1 n)
-    → nth 0 shares agent ≡ shareOf n m table agent
-nth-shares-in {n} {m} {table} known {agent} in-use =
-    ap (λ l. nth 0 l agent) (known .each ∙ ap (padded mostAgents 0) (shares-range n m table)) ∙ nth-padded-range mostAgents 0 0 (shareOf n m table) n in-use
+module _ {n m : ℕ} {table : List (List ℕ)} {shares : List ℕ} (known : SharesIn n m table shares) {agent : ℕ} (in-use : Mem agent (range 1 n)) where
+  pub nth-shares-in : nth 0 shares agent ≡ shareOf n m table agent
+  nth-shares-in =
+      ap (λ l. nth 0 l agent) (known .each ∙ ap (padded mostAgents 0) (shares-range n m table)) ∙ nth-padded-range mostAgents 0 0 (shareOf n m table) n in-use
+
+  -- the same, by the shares agent after agent
+  pub nth-shares-known : nth 0 shares agent ≡ nth 0 (map (maximinShare n) (profile n m table)) agent
+  nth-shares-known = nth-shares-in ∙ sym (nth-shares n m table in-use)

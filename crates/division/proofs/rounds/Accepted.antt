@@ -24,6 +24,7 @@ use Rattle.shares.specs.Outcome.{blankCut}
 use Rattle.shares.specs.declared.Cut.{Cut}
 use Rattle.shares.specs.declared.Outcome.{Outcome as SharesOutcome}
 use Rattle.shares.proofs.EachAgent.{cutAt, cuts-range}
+use Rattle.shares.proofs.Outcomes.{nth-shares-known}
 use Rattle.grades.specs.Grade.{ownValues, valueTo, grade, worthsIn, gradeIn}
 use Rattle.grades.proofs.InPlaces.{nth-worthsIn}
 use Rattle.margins.proofs.Stored.{nth-marginsStored}
@@ -40,7 +41,7 @@ use Rattle.division.specs.internal.Allocation.{nothing, allottedAll}
 use Rattle.division.specs.internal.Shared.{IsShared}
 use Rattle.division.specs.declared.Answer.the-variants.{Divided}
 use Rattle.division.proofs.Outcomes.{items-setOf-bundle}
-use Rattle.division.proofs.rounds.SameRounds.{same-shares, rounds-placed}
+use Rattle.division.proofs.rounds.SameRounds.{rounds-placed}
 use Rattle.division.proofs.rounds.AllRounds.{getD-setOf, allotted-bundles, allotted-cutters-all}
 
 -- what holds of [] and of each member holds in each place
@@ -156,7 +157,7 @@ module _ {n m : ℕ} {table : List (List ℕ)} {terms : Terms} {allowance : ℕ}
         → nth (pos 0) (marginsStored n terms worths (own .shares)) i ≡ nth (pos 0) (allocationMargins n m (instanceOfTable n m terms table)) i
     margin-read i mi =
         nth-marginsStored n terms worths (own .shares) (counts .few) (shared .allowed .small) small-worths (shared .known .small) mi
-        ∙ ap₂ (margin terms) (worth-read i mi) (same-shares (shared .known) mi)
+        ∙ ap₂ (margin terms) (worth-read i mi) (nth-shares-known (shared .known) mi)
         ∙ sym (nth-map-range (λ k. margin terms (nth 0 (ownValues n rows bundles) k) (nth 0 shares k)) (pos 0) n mi)
 
     -- the grade of what the rounds hand out
@@ -165,7 +166,7 @@ module _ {n m : ℕ} {table : List (List ℕ)} {terms : Terms} {allowance : ℕ}
     grade-accepted =
         gradeIn-within n m table (own .shares) (marginsStored n terms worths (own .shares)) placedSets in-use
         ∙ grade-cong n rows (own .shares) shares (marginsStored n terms worths (own .shares)) (allocationMargins n m (instanceOfTable n m terms table)) (map itemsOf placedSets) bundles
-        (λ i mi. same-shares (shared .known) mi)
+        (λ i mi. nth-shares-known (shared .known) mi)
         margin-read
         (λ i mi. bundle-read i)
 

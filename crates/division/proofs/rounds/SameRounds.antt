@@ -1,16 +1,14 @@
 -- The code's instance, with the whole table and a share in each of six places, has the rounds of the definition. Assumes nothing.
-use mathlib.Core.Path.{_≡_, sym, ap, ap₂, _∙_}
-use mathlib.Core.List.{List, map, List·Memᴰ as Mem}
+use mathlib.Core.Path.{_≡_, sym, ap, ap₂}
+use mathlib.Core.List.{List}
 use Prim.Native.Nat.{ℕ, _*_}
 use lib.Dec.{leb}
-use Rattle.lists.specs.Lists.{range, nth}
+use Rattle.lists.specs.Lists.{range}
 use Rattle.lists.specs.Sums.{total}
-use Rattle.sheet.specs.Tables.{profile}
 use Rattle.sheet.proofs.valuing.Tables.{values-profile}
-use Rattle.maximin.specs.Share.{maximinShare, maximinPartition}
-use Rattle.shares.proofs.Profile.{nth-shares}
+use Rattle.maximin.specs.Share.{maximinPartition}
 use Rattle.shares.specs.Known.{SharesIn}
-use Rattle.shares.proofs.Outcomes.{nth-shares-in}
+use Rattle.shares.proofs.Outcomes.{nth-shares-known}
 use Rattle.terms.specs.declared.Terms.{Terms}
 use Rattle.rounds.specs.Round.{rounds}
 use Rattle.rounds.specs.Division.{instanceOfTable, allRounds}
@@ -18,14 +16,10 @@ use Rattle.rounds.proofs.round.Congruence.{Alike, rounds-cong}
 use Rattle.division.specs.internal.Left.{instanceFrom}
 
 module _ {n m : ℕ} {table : List (List ℕ)} {shares : List ℕ} (known : SharesIn n m table shares) where
-  -- the share of an agent, read from its place
-  pub same-shares : {agent : ℕ} → Mem agent (range 1 n) → nth 0 shares agent ≡ nth 0 (map (maximinShare n) (profile n m table)) agent
-  same-shares i = nth-shares-in known i ∙ sym (nth-shares n m table i)
-
   alike-placed : (terms : Terms) → Alike (instanceFrom terms table shares) (instanceOfTable n m terms table) (range 1 n) (range 1 m)
   alike-placed terms =
       record {
-        same-suiting = λ agent i part s. ap₂ (λ share values. leb (terms .top * share) (terms .bottom * total values)) (same-shares i) (sym (values-profile n m table i s));
+        same-suiting = λ agent i part s. ap₂ (λ share values. leb (terms .top * share) (terms .bottom * total values)) (nth-shares-known known i) (sym (values-profile n m table i s));
         same-cuts = λ agent i k part s. ap (maximinPartition k) (sym (values-profile n m table i s));
       }
 
