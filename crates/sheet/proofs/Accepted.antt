@@ -1,4 +1,4 @@
--- What an accepted answer says of the tests on its way: each of them was passed; and an answer that nothing follows. Assumes nothing.
+-- What an accepted answer says of the tests on its way: each of them was passed; and the laws of one answer after another. Assumes nothing.
 use mathlib.Core.Path.{_≡_, refl}
 use mathlib.Core.Bool.{Bool, true, false}
 use mathlib.Core.Option.{Option, none, some}
@@ -24,3 +24,9 @@ module _ {B : Type 0} (b : B) where
 pub andThen-accepted : {A : Type 0} (a : Answer A) → andThen a accepted ≡ a
 andThen-accepted (refused number) = refl
 andThen-accepted (accepted result) = refl
+
+-- three answers, one after another
+pub andThen-assoc : {A B C : Type 0} (a : Answer A) (next : A → Answer B) (last : B → Answer C)
+    → andThen (andThen a next) last ≡ andThen a (λ x. andThen (next x) last)
+andThen-assoc (refused number) next last = refl
+andThen-assoc (accepted result) next last = refl
