@@ -23,6 +23,9 @@ use terms::terms_for;
 
 mod dividing;
 
+// How many growth partitions each cut of the dividing program may look at: "The dividing program allows 4,000,000".
+pub const ALLOWANCE: u32 = 4000000;
+
 // The number of the reason why the table is refused, or the grade of its division.
 pub enum Answer {
     Refused(u8),

@@ -9,11 +9,12 @@ use Rattle.sheet.specs.Answers.{Answer, accepted}
 use Rattle.terms.specs.declared.Terms.{Terms}
 use Rattle.cut.specs.Outcome.{Found, shared, cutting}
 use Rattle.cut.specs.SampleCuts.{Sample as CutSample}
+use Rattle.shares.specs.Shares.{standardAllowance}
 use Rattle.rounds.specs.Division.{Division, answer}
 
--- the allowance of the samples: "The dividing program allows 4,000,000"
+-- the allowance of the samples is the dividing program's
 abbrev pub sampleAllowance : ℕ
-sampleAllowance = 4000000
+sampleAllowance = standardAllowance
 
 -- a sheet, with its division
 pub record Sample : Type 0 where

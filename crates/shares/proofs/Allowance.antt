@@ -12,7 +12,7 @@ use Rattle.sheet.specs.Answers.{refused, accepted, require, andThen}
 use Rattle.sheet.proofs.Accepted.{andThen-accepted}
 use Rattle.growth.specs.Growth.{growths}
 use Rattle.growth.proofs.Growths.{mostGrowths, growths-le-most}
-use Rattle.shares.specs.Shares.{sharing, sharingWithin}
+use Rattle.shares.specs.Shares.{sharing, sharingWithin, standardAllowance}
 use Rattle.shares.proofs.Refusals.{sharing-within, sharing-cases}
 
 module _ (n m : ℕ) (table : List (List ℕ)) (allowance : ℕ) where
@@ -48,3 +48,9 @@ module _ (n m : ℕ) (table : List (List ℕ)) (allowance : ℕ) where
       (λ w. ⊎-elim (λ short. inr (14, sharingWithin-short w short)) (λ enough. inl (w, enough)) (lt-or-ge allowance (growths n m)))
       (λ r. inr (r .0, sharingWithin-refused (r .0) (r .1)))
       (sharing-cases n m table)
+
+-- "The dividing program allows 4,000,000, so no sheet is lost" (document 02, order 7): that is enough for every table within the limits
+pub standardAllowance-enough : (n m : ℕ) → CountsWithin n m → growths n m ≤ standardAllowance
+standardAllowance-enough n m w =
+    let most : mostGrowths ≤ standardAllowance = omega arith in
+    omega (arith, most, growths-le-most n m (w .some) (w .few) (w .few-items))

@@ -35,3 +35,7 @@ sharing n m table =
 -- "14 after 9 and before 10 .. by the division when the growth layouts of all pieces into N piles outnumber A" (document 02, order 7)
 unfoldable pub sharingWithin : ℕ → ℕ → List (List ℕ) → ℕ → Answer (List Cutting)
 sharingWithin n m table allowance = andThen (sharing n m table) (λ cuttings. require 14 (leb (growths n m) allowance) (accepted cuttings))
+
+-- "The dividing program allows 4,000,000" (document 02, order 7)
+abbrev pub standardAllowance : ℕ
+standardAllowance = 4000000

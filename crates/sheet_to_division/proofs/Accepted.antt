@@ -2,16 +2,16 @@
 use mathlib.Core.Path.{_≡_, ap, _∙_}
 use mathlib.Core.List.{List}
 use Prim.Native.Nat.{ℕ, _≤_}
-use native.Mathlib.Omega.{arith}
 use Rattle.sheet.specs.Answers.{accepted, andThen}
 use Rattle.reading.specs.Reading.{Contents, reading}
 use Rattle.reading.proofs.Accepted.{accepted-text, accepted-carried, accepted-counts}
 use Rattle.reading.proofs.SmallMarks.{table-small}
 use Rattle.growth.specs.Growth.{growths}
-use Rattle.growth.proofs.Growths.{mostGrowths, growths-le-most}
+use Rattle.shares.specs.Shares.{standardAllowance}
+use Rattle.shares.proofs.Allowance.{standardAllowance-enough}
 use Rattle.printing.specs.Printing.{longestPrinted, printing}
 use Rattle.printing.proofs.printed.Longest.{printing-within-limits}
-use Rattle.sheet_to_division.specs.ShareOut.{shareOut, standardAllowance}
+use Rattle.sheet_to_division.specs.ShareOut.{shareOut}
 use Rattle.sheet_to_division.specs.PrintedDivision.{printedDivision}
 
 -- an accepted text whose growth partitions do not outnumber the allowance gets its division, with a buffer of `longestPrinted` bytes
@@ -28,7 +28,4 @@ accepted-printed s allowance room sheet read allowed enough =
 -- "The dividing program allows 4,000,000, so no sheet is lost" (document 02, order 7): every accepted text gets its division
 pub no-sheet-lost : (s : List ℕ) (room : ℕ) (sheet : Contents) → reading s ≡ accepted sheet → longestPrinted ≤ room
     → shareOut s standardAllowance room ≡ accepted (printedDivision sheet)
-no-sheet-lost s room sheet read =
-    let w = accepted-counts s sheet read in
-    let most : mostGrowths ≤ standardAllowance = omega arith in
-    accepted-printed s standardAllowance room sheet read (omega (arith, most, growths-le-most (sheet .agents) (sheet .items) (w .some) (w .few) (w .few-items)))
+no-sheet-lost s room sheet read = accepted-printed s standardAllowance room sheet read (standardAllowance-enough (sheet .agents) (sheet .items) (accepted-counts s sheet read))

@@ -7,8 +7,9 @@ use Rattle.sheet.specs.Limits.{earlierMarkLimits}
 use Rattle.sheet.specs.Answers.{accepted}
 use Rattle.reading.specs.Reading.{Contents, readingWithin}
 use Rattle.reading.proofs.WiderMarks.{accepted-before, answered-as-before}
+use Rattle.shares.specs.Shares.{standardAllowance}
 use Rattle.printing.specs.Printing.{longestPrinted, printing}
-use Rattle.sheet_to_division.specs.ShareOut.{shareOut, standardAllowance, shareOutBefore}
+use Rattle.sheet_to_division.specs.ShareOut.{shareOut, shareOutBefore}
 use Rattle.sheet_to_division.proofs.Accepted.{no-sheet-lost}
 
 module _ (text : List ℕ) (sheet : Contents) (read : readingWithin earlierMarkLimits text ≡ accepted sheet) where

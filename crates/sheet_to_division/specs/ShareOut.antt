@@ -11,10 +11,6 @@ use Rattle.printing.specs.Printing.{printing}
 unfoldable pub shareOut : List ℕ → ℕ → ℕ → Answer (List ℕ)
 shareOut text allowance room = andThen (reading text) (λ sheet. printing (sheet .agents) (sheet .items) (sheet .table) allowance room)
 
--- "The dividing program allows 4,000,000" (document 02, order 7)
-abbrev pub standardAllowance : ℕ
-standardAllowance = 4000000
-
 -- "Sheets accepted before divide as they did" (document 02, order 3): what a text and a lent buffer were answered before, when a mark went to
 -- 65,535 in five digits
 abbrev pub shareOutBefore : List ℕ → ℕ → ℕ → Answer (List ℕ)

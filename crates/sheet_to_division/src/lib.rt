@@ -4,11 +4,9 @@ ghost use lib.ListN.{length};
 ghost use Rattle.sheet.specs.Answers.{after};
 ghost use Rattle.writing.specs.Answered.{answered};
 ghost use Rattle.writing.specs.Filled.{filled};
-ghost use Rattle.sheet_to_division.specs.ShareOut.{shareOut, standardAllowance};
+ghost use Rattle.shares.specs.Shares.{standardAllowance};
+ghost use Rattle.sheet_to_division.specs.ShareOut.{shareOut};
 use writing::Answer;
-
-// How many growth partitions each cut of the dividing program may look at: "The dividing program allows 4,000,000".
-pub const ALLOWANCE: u32 = 4000000;
 
 // Prints the division of the sheet that `text` holds, with an allowance for cutting, into the lent buffer and answers the length
 // printed, or answers the number of the first reason to turn the sheet down and leaves the buffer as it is.
@@ -33,5 +31,5 @@ pub fn share_out_standard(text: &[u8], buffer: &mut [u8]) -> Answer
     ensures answer { λ r. ⌜ r ≡ answered (shareOut (now (text .entry)) standardAllowance (length (now (buffer .entry)))) ⌝ }
     ensures buffer { λ _. ⌜ now (buffer .exit) ≡ after filled (shareOut (now (text .entry)) standardAllowance (length (now (buffer .entry)))) (now (buffer .entry)) ⌝ }
 {
-    share_out(text, ALLOWANCE, buffer)
+    share_out(text, division::ALLOWANCE, buffer)
 }
