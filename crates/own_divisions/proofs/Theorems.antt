@@ -12,7 +12,7 @@ use Rattle.strict_text.proofs.RoundTrip.{reading-withinLimits}
 use Rattle.writing.specs.Filled.{filling}
 use Rattle.growth.proofs.Growths.{mostGrowths}
 use Rattle.rounds.proofs.Answers.{answer-with-most}
-use Rattle.sheet_to_division.specs.PrintedDivision.{divisionOfSheet}
+use Rattle.sheet_to_division.specs.DividedFrom.{divisionOfSheet}
 use Rattle.sheet_to_judgement.specs.AcceptedText.{acceptedText, longestAccepted}
 use Rattle.sheet_to_judgement.specs.TextJudged.{textJudged, judgementFrom}
 use Rattle.sheet_to_judgement.proofs.Longest.{accepted-judged}

@@ -4,7 +4,7 @@ use Prim.Native.Nat.{ℕ}
 use Rattle.reading.specs.Reading.{Contents}
 use Rattle.strict_text.specs.StrictText.{strictText}
 use Rattle.printing.specs.Printed.{printedWithoutCutters}
-use Rattle.sheet_to_division.specs.PrintedDivision.{divisionOfSheet}
+use Rattle.sheet_to_division.specs.DividedFrom.{divisionOfSheet}
 
 -- "Behind its strict sheet and without its cutters line, a division the box prints" (document 02, order 5)
 abbrev pub sheetAndDivision : Contents → List ℕ

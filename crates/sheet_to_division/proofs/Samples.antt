@@ -16,10 +16,11 @@ use Rattle.growth.specs.Growth.{growths}
 use Rattle.shares.specs.Shares.{sharesCovered, sharing, sharingWithin, standardAllowance}
 use Rattle.rounds.specs.Division.{divisionOf, answer}
 use Rattle.printing.specs.Printed.{headLine, pileGroup, amounts, cutGroup, yardLine, cuttersLine, allLines, printed}
-use Rattle.printing.specs.Printing.{printing, longestPrinted}
+use Rattle.printing.specs.Printing.{longestPrinted}
+use Rattle.sheet_to_division.specs.DividedFrom.{dividedFrom}
 use Rattle.sheet_to_division.specs.ShareOut.{shareOut}
 
 pub sheet-a : shareOut sheetA standardAllowance longestPrinted
     ≡ accepted (bytes "(division (yards 2) (pieces 3) (grade 3))\n(yard 1 (pile 1) (worth 5) (share 5) (cut (1) (2 3)))\n(yard 2 (pile 2 3) (worth 4) (share 4) (cut (1) (2 3)))\n(cutters 1)\n(end)\n")
-unfolding shareOut answer divisionOf sharingWithin growths sharing sharesCovered profile termsFor largestOdd round rounds held waitingSet matching maximinShare maximinPartition grade envyFree proportional maximinFair printing printed allLines headLine pileGroup amounts cutGroup yardLine cuttersLine digitsIn decimal spacedNumbers flatMap
+unfolding shareOut dividedFrom answer divisionOf sharingWithin growths sharing sharesCovered profile termsFor largestOdd round rounds held waitingSet matching maximinShare maximinPartition grade envyFree proportional maximinFair printed allLines headLine pileGroup amounts cutGroup yardLine cuttersLine digitsIn decimal spacedNumbers flatMap
 sheet-a = rw sheet-a-read

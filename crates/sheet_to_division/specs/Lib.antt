@@ -1,3 +1,4 @@
--- What the text of a sheet gets: reading, dividing and printing, one after the other.
-pub mod ShareOut
+-- What the text of a sheet gets: reading and dividing, one after the other, in `DividedFrom`; then printing.
+pub mod DividedFrom
 pub mod PrintedDivision
+pub mod ShareOut

@@ -1,14 +1,21 @@
--- The division of what a sheet carries, and its text. Assumes nothing: these are definitions.
+-- The text of a sheet's division. Assumes nothing: these are definitions.
 use mathlib.Core.List.{List}
 use Prim.Native.Nat.{ℕ}
+use Rattle.sheet.specs.Answers.{Answer, andThen}
+use Rattle.writing.specs.Filled.{filling}
 use Rattle.reading.specs.Reading.{Contents}
-use Rattle.rounds.specs.Division.{Division, divisionByRounds}
+use Rattle.rounds.specs.Division.{Division}
 use Rattle.printing.specs.Printed.{printed}
+use Rattle.sheet_to_division.specs.DividedFrom.{divisionOfSheet}
 
--- "an accepted sheet gets the division of its table" (document 01, "The two lists of demand 3")
-abbrev pub divisionOfSheet : Contents → Division
-divisionOfSheet sheet = divisionByRounds (sheet .agents) (sheet .items) (sheet .table)
+-- a division of a sheet, printed
+abbrev pub printedFor : Contents → Division → List ℕ
+printedFor sheet d = printed (sheet .agents) (sheet .items) (sheet .table) d
 
--- as it is printed
+-- the division of a sheet, printed
 abbrev pub printedDivision : Contents → List ℕ
-printedDivision sheet = printed (sheet .agents) (sheet .items) (sheet .table) (divisionOfSheet sheet)
+printedDivision sheet = printedFor sheet (divisionOfSheet sheet)
+
+-- "one that fills a lent buffer tries 10 last": a sheet and its division, printed into a buffer of so many bytes
+abbrev pub printedInto : ℕ → Answer (Contents × Division) → Answer (List ℕ)
+printedInto room divided = andThen divided (λ (sheet, d). filling room (printedFor sheet d))

@@ -8,7 +8,7 @@ use Rattle.writing.specs.Filled.{filled}
 use Rattle.reading.proofs.Composed.{refused-read, accepted-read}
 use Rattle.writing.specs.Answered.{answered}
 use Rattle.printing.specs.Printing.{printing}
-use Rattle.sheet_to_division.specs.ShareOut.{shareOut}
+use Rattle.sheet_to_division.proofs.ByPrinting.{shareOut-by-printing}
 use borrow.Author.Needs.{needs}
 use Rattle.sheet_to_division.proofs.share_out.Statement.{statement}
 use Rattle.sheet_to_division.proofs.share_out.Tie as tie
@@ -33,18 +33,18 @@ print-division-requires : tie.Need-print-division-requires
 print-division-requires c κs = search needs
 
 returns : tie.Need-returns
-unfolding shareOut
 returns c =
     let at-read = c .before .before .before in
     let a = at-read .before .before .before .args in
-    let told = refused-read (λ sheet. printingOf (a .allowance) (length (a .buffer .now)) (sheet .agents) (sheet .items) (sheet .table)) (a .text .now) (at-read .read .ensures) (c .before .answer .given .1) in
+    let room = length (a .buffer .now) in
+    let told = shareOut-by-printing (a .allowance) room (a .text .now)
+    ∙ refused-read (λ sheet. printingOf (a .allowance) room (sheet .agents) (sheet .items) (sheet .table)) (a .text .now) (at-read .read .ensures) (c .before .answer .given .1) in
     (sym (ap answered told), sym (ap (λ p. after filled p (a .buffer .now)) told))
 
 same-length : tie.Need-same-length
 same-length c = search needs
 
 returns-2 : tie.Need-returns-2
-unfolding shareOut
 returns-2 c =
     let at-print = c .before .before in
     let at-table = at-print .before .before in
@@ -53,7 +53,8 @@ returns-2 c =
     let a = at-read .before .before .before .args in
     let counts = at-answer .answer2 .given .0 .0 in
     let room = length (a .buffer .now) in
-    let same = accepted-read (a .text .now) (at-read .read .ensures) (printingOf (a .allowance) room) (at-answer .answer2 .given .1) (at-table .table .ensures) in
+    let same = accepted-read (a .text .now) (at-read .read .ensures) (printingOf (a .allowance) room) (at-answer .answer2 .given .1) (at-table .table .ensures)
+    ∙ sym (shareOut-by-printing (a .allowance) room (a .text .now)) in
     let told : at-print .print-division .result ≡ answered (printing (counts .agents) (counts .items) (at-table .table .result) (a .allowance) room) = at-print .print-division .ensures .0 in
     (told ∙ ap answered same, at-print .print-division .ensures .1 ∙ ap (λ p. after filled p (a .buffer .now)) same)
 
