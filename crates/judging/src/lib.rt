@@ -1,6 +1,5 @@
 // Judging a division that others bring: the refusal's number, or that all it states is true, with the margin of each agent.
 ghost use mathlib.Core.Path.{_≡_};
-ghost use mathlib.Core.Bool.{_&&_};
 ghost use mathlib.Core.List.{map};
 ghost use lib.ListN.{length};
 ghost use Rattle.sheet.specs.Limits.{mostAgents};
@@ -20,6 +19,7 @@ use sheet::Sets;
 use sheet::Sheet;
 use sheet::Table;
 use sheet::amounts::Amounts;
+use sheet::both;
 use stated_figures::figures_true;
 use stated_items::Test;
 use stated_items::all_pass;
@@ -59,13 +59,6 @@ fn bundles_of(lines: [StatedLine; Sheet::AGENTS]) -> Sets
         i += 1;
     }
     bundles
-}
-
-// Whether both hold.
-fn both(a: bool, b: bool) -> bool
-    ensures { λ r. ⌜ r ≡ a && b ⌝ }
-{
-    if a { b } else { false }
 }
 
 // The answer on a division of a table that is not refused, by the shares of its agents.

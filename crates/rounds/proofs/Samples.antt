@@ -18,16 +18,16 @@ use Rattle.matching.specs.Matching.{waitingSet, matching}
 use Rattle.rounds.specs.Round.{round, rounds, held}
 use Rattle.grades.specs.Grade.{envyFree, proportional, maximinFair, grade}
 use Rattle.rounds.specs.Division.{Division, instanceOf, divisionOf, divisionByRounds, answer}
-use Rattle.rounds.specs.SampleSheets.{sampleAllowance, answerByDefinitions, answerStated, sheetA, starred, samples, twoThirdsSheet, twoThirds}
+use Rattle.rounds.specs.SampleSheets.{answerByDefinitions, answerStated, sheetA, starred, samples, twoThirdsSheet, twoThirds}
 use Rattle.rounds.proofs.Answers.{answer-within-limits, answer-refused-14}
 use Rattle.sheet.specs.Answers.{Answer, refused, accepted}
 use Rattle.sheet.specs.ThreePlayers.{players}
 use Rattle.growth.specs.Growth.{growths}
 use Rattle.growth.proofs.Growths.{twelve-into-three}
-use Rattle.shares.specs.Shares.{shareOf, sharesCovered, sharing, sharingWithin}
+use Rattle.shares.specs.Shares.{shareOf, sharesCovered, sharing, standardAllowance, sharingWithin}
 
 -- 0 and 7 yards give 4, 0 and 13 pieces give 5, and 4 is tried first
-pub refusals-hold : answer 0 3 [] sampleAllowance ∷ answer 7 3 [] sampleAllowance ∷ answer 2 0 [] sampleAllowance ∷ answer 2 13 [] sampleAllowance ∷ answer 7 13 [] sampleAllowance ∷ []
+pub refusals-hold : answer 0 3 [] standardAllowance ∷ answer 7 3 [] standardAllowance ∷ answer 2 0 [] standardAllowance ∷ answer 2 13 [] standardAllowance ∷ answer 7 13 [] standardAllowance ∷ []
     ≡ map refused (4 ∷ 4 ∷ 5 ∷ 5 ∷ 4 ∷ [])
 unfolding answer sharingWithin sharing
 refusals-hold = refl
@@ -47,7 +47,7 @@ unfolding termsFor largestOdd maximinShare margin
 six-of-nine-falls-short = (refl, refl, refl, refl)
 
 -- so yard 2 waits, and its pile is {1 2}
-pub six-of-nine-not-handed-out : answer 3 4 (twoThirdsSheet .rows) sampleAllowance ≡ accepted (twoThirdsSheet .division)
+pub six-of-nine-not-handed-out : answer 3 4 (twoThirdsSheet .rows) standardAllowance ≡ accepted (twoThirdsSheet .division)
 unfolding answer divisionOf sharingWithin growths sharing sharesCovered profile termsFor largestOdd round rounds held waitingSet matching maximinShare maximinPartition margin grade envyFree proportional maximinFair
 six-of-nine-not-handed-out = refl
 
@@ -78,6 +78,6 @@ divisionsOf [] = []
 divisionsOf (inl d ∷ rows) = d ∷ divisionsOf rows
 divisionsOf (inr c ∷ rows) = divisionsOf rows
 
-pub samples-hold : map (λ s. answer (s .agents) (s .items) (s .rows) sampleAllowance) samples ≡ map (λ s. accepted (s .division)) samples
+pub samples-hold : map (λ s. answer (s .agents) (s .items) (s .rows) standardAllowance) samples ≡ map (λ s. accepted (s .division)) samples
 unfolding starred
 samples-hold = ap divisionsOf starred-hold

@@ -12,10 +12,6 @@ use Rattle.cut.specs.SampleCuts.{Sample as CutSample}
 use Rattle.shares.specs.Shares.{standardAllowance}
 use Rattle.rounds.specs.Division.{Division, answer}
 
--- the allowance of the samples is the dividing program's
-abbrev pub sampleAllowance : ℕ
-sampleAllowance = standardAllowance
-
 -- a sheet, with its division
 pub record Sample : Type 0 where
   pub agents : ℕ
@@ -30,7 +26,7 @@ pub data Starred : Type 0 where
 
 -- what the definitions answer for a row
 abbrev pub answerByDefinitions : Starred → Answer Division ⊎ Answer Found
-answerByDefinitions (sheet s) = inl (answer (s .agents) (s .items) (s .rows) sampleAllowance)
+answerByDefinitions (sheet s) = inl (answer (s .agents) (s .items) (s .rows) standardAllowance)
 answerByDefinitions (cut s) = inr (cutting (s .valuation) (s .set) (s .bundles) (s .allowance))
 
 -- what the row states
@@ -130,9 +126,9 @@ starred =
       };
     })
     -- g
-    ∷ cut (record { valuation = 1 ∷ 2 ∷ 3 ∷ 4 ∷ 5 ∷ 6 ∷ 7 ∷ []; set = 0b1111111; bundles = 3; allowance = sampleAllowance; answered = accepted (shared 9 (1 ∷ 1 ∷ 2 ∷ 3 ∷ 3 ∷ 1 ∷ 2 ∷ []) 365) })
+    ∷ cut (record { valuation = 1 ∷ 2 ∷ 3 ∷ 4 ∷ 5 ∷ 6 ∷ 7 ∷ []; set = 0b1111111; bundles = 3; allowance = standardAllowance; answered = accepted (shared 9 (1 ∷ 1 ∷ 2 ∷ 3 ∷ 3 ∷ 1 ∷ 2 ∷ []) 365) })
     -- h
-    ∷ cut (record { valuation = 2 ∷ 2 ∷ 2 ∷ 2 ∷ []; set = 0b1111; bundles = 2; allowance = sampleAllowance; answered = accepted (shared 4 (1 ∷ 1 ∷ 2 ∷ 2 ∷ []) 8) })
+    ∷ cut (record { valuation = 2 ∷ 2 ∷ 2 ∷ 2 ∷ []; set = 0b1111; bundles = 2; allowance = standardAllowance; answered = accepted (shared 4 (1 ∷ 1 ∷ 2 ∷ 2 ∷ []) 8) })
     -- i
     ∷ sheet (record {
       agents = 1;

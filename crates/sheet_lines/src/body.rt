@@ -10,9 +10,9 @@ ghost use Rattle.sheet_lines.specs.Results.{unreadBody, bodyFrom};
 ghost use Rattle.sheet_lines.specs.internal.Kept.{keptLines};
 ghost use Rattle.sheet_lines.specs.internal.Results.{linesFrom};
 use crate::yards::Yard;
-use crate::yards::both;
 use crate::yards::yard_line;
 use sheet::Sheet;
+use sheet::both;
 use sheet::lesser;
 use tokeniser::Cursor;
 

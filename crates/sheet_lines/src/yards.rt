@@ -1,7 +1,6 @@
 // The line of one yard.
 ghost use Prim.Native.Nat.{_≤_};
 ghost use mathlib.Core.Path.{_≡_};
-ghost use mathlib.Core.Bool.{_&&_};
 ghost use Rattle.sheet.specs.Limits.{mostItems, markDigits};
 ghost use Rattle.tokeniser.specs.Places.{tokensAt};
 ghost use Rattle.lexing.specs.Results.{followedFrom};
@@ -19,6 +18,7 @@ use lexing::forms::read_number;
 use sheet::Mark;
 use sheet::Row;
 use sheet::Sheet;
+use sheet::both;
 use tokeniser::Cursor;
 
 // How many marks there are that are allowed.
@@ -35,13 +35,6 @@ pub struct Line {
     pub allowed: bool,
     pub row: Row,
     pub next: Cursor,
-}
-
-// Whether both hold.
-pub(crate) fn both(a: bool, b: bool) -> bool
-    ensures { λ r. ⌜ r ≡ a && b ⌝ }
-{
-    if a { b } else { false }
 }
 
 // A line that is not as it should be.

@@ -9,7 +9,8 @@ use Rattle.text.specs.Decimal.{digitsIn, decimal, spacedNumbers}
 use Rattle.writing.specs.Filled.{filling}
 use Rattle.sheet.specs.Answers.{accepted, andThen}
 use Rattle.rounds.specs.Division.{answer}
-use Rattle.rounds.specs.SampleSheets.{sampleAllowance, starred, samples}
+use Rattle.shares.specs.Shares.{standardAllowance}
+use Rattle.rounds.specs.SampleSheets.{starred, samples}
 use Rattle.rounds.proofs.Samples.{samples-hold}
 use Rattle.printing.specs.Printed.{headLine, pileGroup, amounts, cutGroup, yardLine, cuttersLine, allLines, printed}
 use Rattle.printing.specs.Printing.{printing}
@@ -67,9 +68,9 @@ unfolding texts starred flatMap printed allLines headLine pileGroup amounts cutG
 texts-printed = refl
 
 -- the tables of the samples are printed so; a buffer of 255 bytes has room for each
-pub samples-printed : map (λ s. printing (s .agents) (s .items) (s .rows) sampleAllowance 255) samples ≡ map accepted texts
+pub samples-printed : map (λ s. printing (s .agents) (s .items) (s .rows) standardAllowance 255) samples ≡ map accepted texts
 unfolding printing
 samples-printed =
-    map-alike (λ s. answer (s .agents) (s .items) (s .rows) sampleAllowance) (λ s. accepted (s .division))
+    map-alike (λ s. answer (s .agents) (s .items) (s .rows) standardAllowance) (λ s. accepted (s .division))
     (λ s a. andThen a (λ d. filling 255 (printed (s .agents) (s .items) (s .rows) d))) samples samples-hold
     ∙ texts-printed

@@ -1,8 +1,8 @@
 -- The parts of one round of agents that a sheet can have: who waits and who is served rises again, and the bundles are those of a sheet.
 -- Assumes nothing.
-use mathlib.Core.Path.{_≡_, refl, _∙_}
+use mathlib.Core.Path.{_≡_, _∙_}
 use mathlib.Core.Bool.{Bool}
-use mathlib.Core.List.{List, []}
+use mathlib.Core.List.{List}
 use mathlib.Core.List.{Sublistᴰ as Sublist, Sublistᴰ·trans as sublist-trans}
 use Prim.Native.Nat.{ℕ, _^_, _≤_, _<_}
 use native.Mathlib.Omega.{arith}
@@ -13,13 +13,12 @@ use Rattle.lists.proofs.members.Counting.{sublist-mem}
 use Rattle.lists.proofs.ranges.RangeSublists.{range-sublist-few}
 use Rattle.sheet.specs.Limits.{mostAgents, setBits}
 use Rattle.sheet.specs.Sets.{itemsOf, setOf}
-use Rattle.sheet.specs.Listed.{numbered}
 use Rattle.sheet.proofs.sets.Sets.{items-setOf}
 use Rattle.sheet.proofs.sets.Ranges.{setOf-below}
-use Rattle.matching.specs.Matching.{waitingSet, matching, waitingOf, servedOf, freeOf, chosenOf}
+use Rattle.matching.specs.Matching.{waitingOf, servedOf, freeOf, chosenOf}
 use Rattle.matching.proofs.Serving.{waiting-sublist}
 use Rattle.matching.proofs.Parts.{servedOf-sublist, freeOf-sublist, chosenOf-within, chosenOf-few}
-use Rattle.serving.specs.Serving.{agentsIn, servingOf}
+use Rattle.serving.specs.Serving.{agentsIn}
 use Rattle.serving.proofs.round.AgentsLeft.{agentsIn-items}
 
 module _ (suits : ℕ → ℕ → Bool) (cutter : ℕ) {agents : List ℕ} (rising : Sublist agents (range 1 mostAgents)) where
@@ -55,8 +54,3 @@ module _ (suits : ℕ → ℕ → Bool) (cutter : ℕ) {agents : List ℕ} (risi
 
   pub agentsIn-waiting : agentsIn (setOf (waitingOf suits cutter agents)) ≡ waitingOf suits cutter agents
   agentsIn-waiting = agentsIn-items (setOf (waitingOf suits cutter agents)) waiting-below ∙ items-waiting
-
--- where no agent is left, nothing is served
-pub servingOf-none : (suits : ℕ → ℕ → Bool) (cutter : ℕ) → servingOf suits cutter (agentsIn 0) ≡ record { served = numbered []; chosen = numbered []; waiting = 0 }
-unfolding servingOf itemsOf waitingSet matching
-servingOf-none suits cutter = refl
