@@ -5,7 +5,8 @@ use mathlib.Core.List.{List, _++_}
 use Prim.Native.Nat.{ℕ, _≤_}
 use native.Mathlib.Omega.{arith}
 use Rattle.sheet.specs.Answers.{accepted, andThen}
-use Rattle.reading.specs.Reading.{Contents, reading}
+use Rattle.sheet.specs.Contents.{Contents}
+use Rattle.reading.specs.Reading.{reading}
 use Rattle.reading.proofs.Accepted.{accepted-counts}
 use Rattle.strict_text.specs.StrictText.{strictText}
 use Rattle.strict_text.proofs.RoundTrip.{reading-withinLimits}

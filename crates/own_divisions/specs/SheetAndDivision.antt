@@ -1,7 +1,7 @@
 -- The text of a sheet and of the box's division of it, as it is judged. Assumes nothing: these are definitions.
 use mathlib.Core.List.{List, _++_}
 use Prim.Native.Nat.{ℕ}
-use Rattle.reading.specs.Reading.{Contents}
+use Rattle.sheet.specs.Contents.{Contents}
 use Rattle.strict_text.specs.StrictText.{strictText}
 use Rattle.printing.specs.Printed.{printedWithoutCutters}
 use Rattle.sheet_to_division.specs.DividedFrom.{divisionOfSheet}

@@ -8,8 +8,9 @@ use native.Mathlib.Omega.{arith}
 use lib.ListN.{length}
 use lib.Dec.{leb, ltb}
 use Rattle.lists.specs.Lists.{all}
-use Rattle.sheet.specs.Limits.{MarkLimits, longestText, mostAgents, mostItems, markLimits, within, CountsWithin}
+use Rattle.sheet.specs.Limits.{MarkLimits, longestText, mostAgents, mostItems, markLimits, within, CountsWithin, agentsAllowed, itemsAllowed}
 use Rattle.sheet.specs.Answers.{Answer, refused, accepted, andThen}
+use Rattle.sheet.specs.Contents.{Contents}
 use Rattle.sheet.proofs.Accepted.{refused-not-accepted, required, requiredSome}
 use Rattle.sheet.proofs.Limits.{within-bounds}
 use Rattle.tokens.specs.Tokens.{Token, tokens}
@@ -18,7 +19,7 @@ use Rattle.sheet_lines.specs.SheetForms.{lastLine}
 use Rattle.sheet_lines.specs.Grammar.{head, Body, body, endLine}
 use Rattle.sheet_lines.specs.Marks.{allowedRow}
 use Rattle.sheet_lines.specs.Kept.{tableOf}
-use Rattle.reading.specs.Reading.{Contents, contentsOf, sheetAtFront, sheetOf, readingWithin, reading}
+use Rattle.reading.specs.Reading.{contentsOf, sheetAtFront, sheetAlone, readingWithin, reading}
 
 pub accepted-injective : {A : Type 0} (a b : A) → accepted a ≡ accepted b → a ≡ b
 accepted-injective a b e = cc
@@ -49,8 +50,8 @@ pub record AcceptedText (limits : MarkLimits) (text : List ℕ) (c : Contents) (
   pub some-byte : ltb 0 (length text) ≡ true
   pub after-head : List Token
   pub head-is : head (tokens text) ≡ some (c .agents, c .items, after-head)
-  pub agents-within : within mostAgents (c .agents) ≡ true
-  pub items-within : within mostItems (c .items) ≡ true
+  pub agents-within : agentsAllowed (c .agents) ≡ true
+  pub items-within : itemsAllowed (c .items) ≡ true
   pub lines : Body
   pub last : List Token
   pub lines-are : body (limits .digits) (c .agents) (c .items) after-head ≡ some (lines, last)
@@ -86,7 +87,7 @@ accepted-behind (accepted sheet) ts c behind e =
 -- a text with a sheet of these counts and lines, which carry c
 module _ (limits : MarkLimits) (text : List ℕ) (c : Contents) (behind : List Token) where
   text-carries : (agents items : ℕ) (after-head : List Token) (lines : Body) (last : List Token) → leb (length text) longestText ≡ true → ltb 0 (length text) ≡ true
-      → head (tokens text) ≡ some (agents, items, after-head) → within mostAgents agents ≡ true → within mostItems items ≡ true
+      → head (tokens text) ≡ some (agents, items, after-head) → agentsAllowed agents ≡ true → itemsAllowed items ≡ true
       → body (limits .digits) agents items after-head ≡ some (lines, last) → follow (form lastLine) last ≡ some behind → contentsOf limits agents items lines ≡ accepted c
       → AcceptedText limits text c behind
   text-carries agents items after-head lines last short some-byte counts few few-items are ends carries =
@@ -112,8 +113,8 @@ module _ (limits : MarkLimits) (mayFollow : List Token → Bool) (text : List �
       let short = required both 1 (leb (length text) longestText) _ e in
       let some-byte = required both 2 (ltb 0 (length text)) _ (short .1) in
       let counts = requiredSome both 3 (head (tokens text)) _ (some-byte .1) in
-      let few = required both 4 (within mostAgents (counts .0 .0)) _ (counts .2) in
-      let few-items = required both 5 (within mostItems (counts .0 .1)) _ (few .1) in
+      let few = required both 4 (agentsAllowed (counts .0 .0)) _ (counts .2) in
+      let few-items = required both 5 (itemsAllowed (counts .0 .1)) _ (few .1) in
       let lines = requiredSome both 6 (body (limits .digits) (counts .0 .0) (counts .0 .1) (counts .0 .2)) _ (few-items .1) in
       let ends = requiredSome both 7 (endLine mayFollow (lines .0 .1)) _ (lines .2) in
       let followed = endLine-ends mayFollow (lines .0 .1) (ends .0) (ends .1) in
@@ -128,9 +129,9 @@ module _ (limits : MarkLimits) (mayFollow : List Token → Bool) (text : List �
       rw (a .short, a .some-byte, a .head-is, a .agents-within, a .items-within, a .lines-are, ends-endLine mayFollow (a .last) behind (a .ends) allowed, a .carries)
 
 -- the sheet of what is read is accepted where it is
-pub sheetOf-accepted : (a : Answer (Contents × List Token)) (c : Contents) → sheetOf a ≡ accepted c → (behind : List Token) × (a ≡ accepted (c, behind))
-sheetOf-accepted (refused number) c e = absurd (refused-not-accepted c number e)
-sheetOf-accepted (accepted p) c e = (p .1, ap (λ sheet. accepted (sheet, p .1)) (accepted-injective (p .0) c e))
+pub sheetAlone-accepted : (a : Answer (Contents × List Token)) (c : Contents) → sheetAlone a ≡ accepted c → (behind : List Token) × (a ≡ accepted (c, behind))
+sheetAlone-accepted (refused number) c e = absurd (refused-not-accepted c number e)
+sheetAlone-accepted (accepted p) c e = (p .1, ap (λ sheet. accepted (sheet, p .1)) (accepted-injective (p .0) c e))
 
 ended-empty : (ts : List Token) → ended ts ≡ true → ts ≡ []
 ended-empty [] e = refl
@@ -140,12 +141,12 @@ ended-empty (t ∷ ts) e = absurd (false≢true e)
 module _ (limits : MarkLimits) (text : List ℕ) (c : Contents) where
   pub sheet-passes : readingWithin limits text ≡ accepted c → AcceptedText limits text c []
   sheet-passes e =
-      let front = sheetOf-accepted (sheetAtFront limits ended text) c e in
+      let front = sheetAlone-accepted (sheetAtFront limits ended text) c e in
       let told = accepted-passes limits ended text c (front .0) (front .1) in
       subst (AcceptedText limits text c) (ended-empty (front .0) (told .1)) (told .0)
 
   pub passes-sheet : AcceptedText limits text c [] → readingWithin limits text ≡ accepted c
-  passes-sheet a = ap sheetOf (passes-accepted limits ended text c [] a refl)
+  passes-sheet a = ap sheetAlone (passes-accepted limits ended text c [] a refl)
 
 -- a text that is accepted now
 pub accepted-text : (text : List ℕ) (c : Contents) → reading text ≡ accepted c → AcceptedText markLimits text c []

@@ -8,13 +8,14 @@ use mathlib.Core.Logic.{_↔_, _⊎_, inl, inr, ⊎-elim}
 use Prim.Native.Nat.{ℕ}
 use lib.ListN.{length}
 use lib.Dec.{leb, ltb}
-use Rattle.sheet.specs.Limits.{MarkLimits, markLimits, longestText, mostAgents, mostItems, within}
+use Rattle.sheet.specs.Limits.{MarkLimits, markLimits, longestText, agentsAllowed, itemsAllowed}
 use Rattle.sheet.specs.Answers.{Answer, refused, accepted, require, requireSome}
+use Rattle.sheet.specs.Contents.{Contents}
 use Rattle.tokens.specs.Tokens.{Token, tokens}
 use Rattle.lexing.specs.Forms.{_>>=_, ended, form, follow}
 use Rattle.sheet_lines.specs.SheetForms.{lastLine}
 use Rattle.sheet_lines.specs.Grammar.{head, body, anything, endLine}
-use Rattle.reading.specs.Reading.{Contents, sheetAtFront, sheetOf, reading, readingFront}
+use Rattle.reading.specs.Reading.{sheetAtFront, sheetAlone, reading, readingFront}
 use Rattle.reading.proofs.Accepted.{AcceptedText, accepted-passes, passes-accepted, accepted-text, passes-sheet}
 
 -- a text with a sheet that is accepted and these tokens behind it is read so, and a text that is read so has them
@@ -62,11 +63,11 @@ alone-or-alike limits text =
     require-alike 1 (leb (length text) longestText) _ _
     (require-alike 2 (ltb 0 (length text)) _ _
     (requireSome-alike 3 (head (tokens text)) _ _ (λ (agents, items, ts₁).
-    require-alike 4 (within mostAgents agents) _ _
-    (require-alike 5 (within mostItems items) _ _
+    require-alike 4 (agentsAllowed agents) _ _
+    (require-alike 5 (itemsAllowed items) _ _
     (requireSome-alike 6 (body (limits .digits) agents items ts₁) _ _ (λ (lines, ts₂).
     endLine-alike ts₂ _))))))
 
-pub refused-alike : (text : List ℕ) → (reading text ≡ refused 7) ⊎ (reading text ≡ sheetOf (readingFront text))
+pub refused-alike : (text : List ℕ) → (reading text ≡ refused 7) ⊎ (reading text ≡ sheetAlone (readingFront text))
 unfolding reading readingFront
-refused-alike text = ⊎-elim (λ e. inl (ap sheetOf e)) (λ e. inr (ap sheetOf e)) (alone-or-alike markLimits text)
+refused-alike text = ⊎-elim (λ e. inl (ap sheetAlone e)) (λ e. inr (ap sheetAlone e)) (alone-or-alike markLimits text)

@@ -5,7 +5,8 @@ use Prim.Native.Nat.{ℕ}
 use native.Mathlib.Omega.{arith}
 use Rattle.sheet.specs.Answers.{Answer, refused, accepted, andThen}
 use Rattle.sheet.specs.declared.Sheet.{Sheet}
-use Rattle.reading.specs.Reading.{Contents, reading}
+use Rattle.sheet.specs.Contents.{Contents}
+use Rattle.reading.specs.Reading.{reading}
 use Rattle.reading.specs.Outcome.{outcome, tableIn}
 use Rattle.reading.specs.declared.Answer.the-variants.{Refused, Accepted}
 use Rattle.reading.specs.declared.Outcome.{Outcome}

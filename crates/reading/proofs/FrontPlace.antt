@@ -4,6 +4,7 @@ use mathlib.Core.List.{List, IsSuffix, IsSuffix·trans as suffix-trans}
 use Prim.Native.Nat.{ℕ}
 use Rattle.sheet.specs.Limits.{markDigits}
 use Rattle.sheet.specs.Answers.{Answer, refused, accepted}
+use Rattle.sheet.specs.Contents.{Contents}
 use Rattle.tokens.specs.Tokens.{Token, tokens}
 use Rattle.tokeniser.specs.Places.{tokensAt, start}
 use Rattle.tokeniser.specs.Behind.{placeLeft}
@@ -13,11 +14,11 @@ use Rattle.lexing.specs.Forms.{form}
 use Rattle.lexing.proofs.readers.Suffixes.{follow-leaves}
 use Rattle.sheet_lines.specs.SheetForms.{lastLine}
 use Rattle.sheet_lines.proofs.Suffixes.{head-leaves, body-leaves}
-use Rattle.reading.specs.Reading.{Contents, sheetOf, readingFront}
+use Rattle.reading.specs.Reading.{sheetAlone, readingFront}
 use Rattle.reading.specs.Outcome.{outcome, frontFrom}
 use Rattle.reading.proofs.AtFront.{front-passes}
 
-pub front-outcome : (text : List ℕ) (a : Answer (Contents × List Token)) → frontFrom text a .outcome ≡ outcome (sheetOf a)
+pub front-outcome : (text : List ℕ) (a : Answer (Contents × List Token)) → frontFrom text a .outcome ≡ outcome (sheetAlone a)
 unfolding frontFrom
 front-outcome text (refused number) = refl
 front-outcome text (accepted p) = refl

@@ -14,7 +14,7 @@ use Rattle.sheet.specs.Limits.{MarkLimits, markLimits, longestText}
 use Rattle.tokens.specs.Tokens.{Token}
 use Rattle.lexing.specs.Forms.{ended}
 use Rattle.sheet_lines.specs.Grammar.{anything}
-use Rattle.reading.specs.Reading.{sheetOf, sheetAtFront, reading, readingFront}
+use Rattle.reading.specs.Reading.{sheetAlone, sheetAtFront, reading, readingFront}
 
 -- the bytes that a program reads at the most
 abbrev front : List ℕ → List ℕ
@@ -32,7 +32,7 @@ sheetAtFront-front limits mayFollow text =
 -- of a sheet alone, and of one with another text behind it
 pub reading-front : (text : List ℕ) → reading (take (longestText + 1) text) ≡ reading text
 unfolding reading
-reading-front text = ap sheetOf (sheetAtFront-front markLimits ended text)
+reading-front text = ap sheetAlone (sheetAtFront-front markLimits ended text)
 
 pub readingFront-front : (text : List ℕ) → readingFront (take (longestText + 1) text) ≡ readingFront text
 unfolding readingFront

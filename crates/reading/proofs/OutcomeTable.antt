@@ -4,8 +4,8 @@ use mathlib.Core.List.{List, [], _∷_, map}
 use Prim.Native.Nat.{ℕ}
 use Rattle.sheet.specs.Limits.{blankTable}
 use Rattle.sheet.specs.Answers.{refused, accepted}
+use Rattle.sheet.specs.Contents.{Contents}
 use Rattle.sheet_lines.specs.Kept.{yard}
-use Rattle.reading.specs.Reading.{Contents}
 use Rattle.reading.specs.Outcome.{outcome, tableIn}
 
 marks-yards : (rows : List (List ℕ)) → tableIn (map yard rows) ≡ rows

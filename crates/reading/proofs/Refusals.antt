@@ -6,7 +6,7 @@ use native.Mathlib.Omega.{arith}
 use lib.Dec.{leb, ltb}
 use lib.ListN.{length}
 use Rattle.lists.specs.Lists.{all}
-use Rattle.sheet.specs.Limits.{MarkLimits, mostAgents, mostItems, markLimits, longestText, within}
+use Rattle.sheet.specs.Limits.{MarkLimits, markLimits, longestText, agentsAllowed, itemsAllowed}
 use Rattle.sheet.specs.Answers.{NeverRefused}
 use Rattle.sheet.proofs.Refusals.{never-accepted, never-require, never-requireSome, never-andThen}
 use Rattle.tokens.specs.Tokens.{Token, tokens}
@@ -25,8 +25,8 @@ module _ (k : ℕ) (above : 9 ≤ k) where
       never-require k 1 (leb (length text) longestText) _ (λ e. omega arith)
       (never-require k 2 (ltb 0 (length text)) _ (λ e. omega arith)
       (never-requireSome k 3 (head (tokens text)) _ (λ e. omega arith) (λ (agents, items, ts₁).
-      never-require k 4 (within mostAgents agents) _ (λ e. omega arith)
-      (never-require k 5 (within mostItems items) _ (λ e. omega arith)
+      never-require k 4 (agentsAllowed agents) _ (λ e. omega arith)
+      (never-require k 5 (itemsAllowed items) _ (λ e. omega arith)
       (never-requireSome k 6 (body (limits .digits) agents items ts₁) _ (λ e. omega arith) (λ (lines, ts₂).
       never-requireSome k 7 (endLine mayFollow ts₂) _ (λ e. omega arith) (λ ts₃.
       never-andThen k (contentsOf limits agents items lines) _ (contents-refusals limits agents items lines) (λ sheet. never-accepted k _))))))))

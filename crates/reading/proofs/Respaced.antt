@@ -13,7 +13,7 @@ use Rattle.tokens.specs.Respaced.{Respaced}
 use Rattle.tokens.proofs.texts.Respaced.{respaced-tokens, respaced-longer}
 use Rattle.lexing.specs.Forms.{ended}
 use Rattle.sheet_lines.specs.Grammar.{anything}
-use Rattle.reading.specs.Reading.{sheetAtFront, sheetOf, reading, readingFront}
+use Rattle.reading.specs.Reading.{sheetAtFront, sheetAlone, reading, readingFront}
 
 -- texts of at least one byte and not too many, with the same tokens, read to the same, whatever may follow the sheet
 pub same-tokens-read : (limits : MarkLimits) (mayFollow : List Token → Bool) (s t : List ℕ) → 0 < length s → 0 < length t → length s ≤ longestText → length t ≤ longestText
@@ -30,7 +30,7 @@ module _ {s t : List ℕ} (r : Respaced s t) (some-byte : 0 < length s) (few : l
   -- a text that is a sheet
   pub respaced-read : reading s ≡ reading t
   unfolding reading
-  respaced-read = ap sheetOf (respaced-at-front ended)
+  respaced-read = ap sheetAlone (respaced-at-front ended)
 
   -- a sheet with another text behind it
   pub respaced-front : readingFront s ≡ readingFront t

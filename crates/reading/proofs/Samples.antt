@@ -7,6 +7,7 @@ use Prim.Native.Nat.{ℕ}
 use Prim.Native.String.{String}
 use Rattle.sheet.specs.Limits.{earlierMarkLimits}
 use Rattle.sheet.specs.Answers.{Answer, refused, accepted}
+use Rattle.sheet.specs.Contents.{Contents}
 use Rattle.text.specs.Bytes.{bytes}
 use Rattle.tokens.specs.Lines.{space, onFirst, lines, beforeRemark}
 use Rattle.tokens.specs.Tokens.{Token, extended, words, lineTokens, tokens}
@@ -14,7 +15,7 @@ use Rattle.lexing.specs.Forms.{form, follow, inTurn}
 use Rattle.lexing.specs.Numbers.{numberAfter, number, digitsAfter, isNumber}
 use Rattle.sheet_lines.specs.Grammar.{endLine, body, yardLine, yardTurn, head}
 use Rattle.sheet_lines.specs.Kept.{tableOf}
-use Rattle.reading.specs.Reading.{Contents, contentsOf, readingWithin, reading, readingFront}
+use Rattle.reading.specs.Reading.{contentsOf, readingWithin, reading, readingFront}
 use Rattle.reading.specs.SampleTexts.{sheetA}
 
 -- the contents of a text with these counts and these rows of marks

@@ -10,6 +10,7 @@ use borrow.Author.Tests.{leb-true, le-leb}
 use Rattle.lists.proofs.members.Each.{all-weaker}
 use Rattle.sheet.specs.Limits.{MarkLimits, earlierMarkLimits, markLimits}
 use Rattle.sheet.specs.Answers.{Answer, accepted, andThen}
+use Rattle.sheet.specs.Contents.{Contents}
 use Rattle.tokens.specs.Tokens.{Token}
 use Rattle.lexing.specs.Forms.{_>>=_, form, follow}
 use Rattle.lexing.specs.Numbers.{number}
@@ -17,7 +18,7 @@ use Rattle.lexing.proofs.readers.AlsoReads.{AlsoReads, also-itself, then-also, 
 use Rattle.sheet_lines.specs.SheetForms.{lineEnd}
 use Rattle.sheet_lines.specs.Grammar.{marks, yardTurn, yardLine, yardLines, Body, body}
 use Rattle.sheet_lines.specs.Marks.{allowed, allowedRow}
-use Rattle.reading.specs.Reading.{Contents, contentsOf, readingWithin, reading}
+use Rattle.reading.specs.Reading.{contentsOf, readingWithin, reading}
 use Rattle.reading.proofs.Accepted.{sheet-passes, passes-sheet, contentsOf-carried, carried-contentsOf}
 
 -- what is read with fewer digits to a mark is read with more

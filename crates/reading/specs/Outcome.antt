@@ -3,12 +3,12 @@ use mathlib.Core.List.{List, map}
 use Prim.Native.Nat.{ℕ}
 use Rattle.sheet.specs.Limits.{blankTable}
 use Rattle.sheet.specs.Answers.{Answer, refused, accepted}
+use Rattle.sheet.specs.Contents.{Contents}
 use Rattle.tokens.specs.Tokens.{Token}
 use Rattle.tokeniser.specs.Places.{start}
 use Rattle.tokeniser.specs.Behind.{placeLeft}
 use Rattle.sheet_lines.specs.Kept.{yard}
 use Rattle.sheet_lines.specs.declared.yards.Yard.{Yard}
-use Rattle.reading.specs.Reading.{Contents}
 use Rattle.reading.specs.declared.Answer.the-variants.{Refused, Accepted}
 use Rattle.reading.specs.declared.Outcome.{Outcome}
 use Rattle.reading.specs.declared.Front.{Front}

@@ -6,7 +6,8 @@ use Prim.Native.Nat.{ℕ}
 use lib.ListN.{length}
 use lib.Dec.{leb, ltb}
 use Rattle.lists.specs.Lists.{all}
-use Rattle.sheet.specs.Limits.{MarkLimits, mostAgents, mostItems, markLimits, longestText, within}
+use Rattle.sheet.specs.Limits.{MarkLimits, agentsAllowed, itemsAllowed, markLimits, longestText}
+use Rattle.sheet.specs.Contents.{Contents, sheetOf}
 use Rattle.sheet.specs.Answers.{Answer, accepted, require, andThen, requireSome}
 use Rattle.tokens.specs.Tokens.{Token, tokens}
 use Rattle.lexing.specs.Forms.{ended}
@@ -14,18 +15,12 @@ use Rattle.sheet_lines.specs.Grammar.{head, Body, body, anything, endLine}
 use Rattle.sheet_lines.specs.Marks.{allowedRow}
 use Rattle.sheet_lines.specs.Kept.{tableOf}
 
--- what an accepted text carries: the counts and the table of marks
-pub record Contents : Type 0 where
-  pub agents : ℕ
-  pub items : ℕ
-  pub table : List (List ℕ)
-
 -- what the lines between the first line and the line `(end)` of a sheet with these counts carry, where none of these reasons is found:
 -- 8: "A mark is above" the greatest
 unfoldable pub contentsOf : MarkLimits → ℕ → ℕ → Body → Answer Contents
 contentsOf limits agents items lines =
     require 8 (all (allowedRow (limits .greatest)) (lines .rows))
-    (accepted (record { agents = agents; items = items; table = tableOf (lines .rows) }))
+    (accepted (sheetOf agents items (tableOf (lines .rows))))
 
 -- "Each is looked for over the whole input before the following one":
 -- 1: "The text is longer than 4,096 bytes"
@@ -42,20 +37,20 @@ sheetAtFront limits mayFollow text =
     require 1 (leb (length text) longestText)
     (require 2 (ltb 0 (length text))
     (requireSome 3 (head (tokens text)) (λ (agents, items, ts₁).
-    require 4 (within mostAgents agents)
-    (require 5 (within mostItems items)
+    require 4 (agentsAllowed agents)
+    (require 5 (itemsAllowed items)
     (requireSome 6 (body (limits .digits) agents items ts₁) (λ (lines, ts₂).
     requireSome 7 (endLine mayFollow ts₂) (λ ts₃.
     andThen (contentsOf limits agents items lines) (λ sheet.
     accepted (sheet, ts₃)))))))))
 
 -- the sheet alone of what is read
-abbrev pub sheetOf : Answer (Contents × List Token) → Answer Contents
-sheetOf a = andThen a (λ (c, ts). accepted c)
+abbrev pub sheetAlone : Answer (Contents × List Token) → Answer Contents
+sheetAlone a = andThen a (λ (c, ts). accepted c)
 
 -- a text that is a sheet: behind the line `(end)` stands "the end of the text"
 abbrev pub readingWithin : MarkLimits → List ℕ → Answer Contents
-readingWithin limits text = sheetOf (sheetAtFront limits ended text)
+readingWithin limits text = sheetAlone (sheetAtFront limits ended text)
 
 -- the limits of a mark are those of order 3 of document 02
 unfoldable pub reading : List ℕ → Answer Contents

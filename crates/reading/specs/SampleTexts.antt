@@ -3,8 +3,8 @@
 use mathlib.Core.List.{List, [], _∷_}
 use Prim.Native.Nat.{ℕ}
 use Rattle.text.specs.Bytes.{bytes}
+use Rattle.sheet.specs.Contents.{Contents}
 use Rattle.sheet_lines.specs.Kept.{tableOf}
-use Rattle.reading.specs.Reading.{Contents}
 
 -- sheet a in the strict layout (samples/a.sheet)
 abbrev pub sheetA : List ℕ

@@ -7,7 +7,8 @@ ghost use Rattle.reading.specs.Outcome.{outcome, tableIn, refusedFront, 
 use lexing::forms::Followed;
 use sheet::Sheet;
 use sheet::Table;
-use sheet::is_within;
+use sheet::agents_allowed;
+use sheet::items_allowed;
 use sheet_lines::body::blank_yards;
 use sheet_lines::body::read_body;
 use sheet_lines::end::end_line;
@@ -76,10 +77,10 @@ fn sheet_at_front(text: &[u8], alone: bool) -> Front
     let Head::Counts(agents, items, first) = read_head(text, Cursor::start()) else {
         return refused(3);
     };
-    if !is_within(agents, Sheet::AGENTS) {
+    if !agents_allowed(agents) {
         return refused(4);
     }
-    if !is_within(items, Sheet::ITEMS) {
+    if !items_allowed(items) {
         return refused(5);
     }
     let lines = read_body(text, first, agents, items);

@@ -17,6 +17,7 @@ use Rattle.sheet.specs.Valuations.{itemValue, valuesOf}
 use Rattle.sheet.specs.Tables.{valuation, allValues, profile}
 use Rattle.sheet.proofs.sets.Ranges.{setOf-upTo}
 use Rattle.sheet.proofs.sets.Remainders.{values-all}
+use Rattle.sheet.specs.Contents.{sheetOf}
 use Rattle.growth.specs.Growth.{growths}
 use Rattle.maximin.specs.Share.{maximinShare, maximinPartition}
 use Rattle.cut.specs.Outcome.{cutting, cuttingOf, wholeCut}
@@ -55,7 +56,7 @@ module _ (n m : ℕ) (table : List (List ℕ)) where
   totalOf i = total (allValues m (valuation table i))
 
   -- the shares, the cuts and the test of refusal 9 by the agents' numbers
-  pub shares-range : map (maximinShare n) (profile n m table) ≡ map (shareOf n m table) (range 1 n)
+  pub shares-range : map (maximinShare n) (profile n m table) ≡ map (shareOf (sheetOf n m table)) (range 1 n)
   unfolding profile
   shares-range = map-map (maximinShare n) (λ i. allValues m (valuation table i)) (range 1 n)
 
@@ -65,7 +66,7 @@ module _ (n m : ℕ) (table : List (List ℕ)) where
       let row : ℕ → List ℕ = λ i. allValues m (valuation table i) in
       ap (map cutOf) (map-map (maximinPartition n) row (range 1 n)) ∙ map-map cutOf (λ i. maximinPartition n (row i)) (range 1 n)
 
-  pub sharesCovered-range : sharesCovered n (profile n m table) ≡ all (λ i. leb (n * shareOf n m table i) (totalOf i)) (range 1 n)
+  pub sharesCovered-range : sharesCovered n (profile n m table) ≡ all (λ i. leb (n * shareOf (sheetOf n m table) i) (totalOf i)) (range 1 n)
   unfolding sharesCovered profile
   sharesCovered-range = all-map (λ values. leb (n * maximinShare n values) (total values)) (λ i. allValues m (valuation table i)) (range 1 n)
 
@@ -76,5 +77,5 @@ module _ (n m : ℕ) (table : List (List ℕ)) where
       (map-map (λ c. c .share) (cuttingOf n) rows)
       (map-map (λ c. cutOf (c .partition)) (cuttingOf n) rows ∙ sym (map-map cutOf (maximinPartition n) rows))
 
-  pub outcome-range : outcome (accepted (map (cuttingOf n) (profile n m table))) ≡ sharedAs (map (shareOf n m table) (range 1 n)) (map cutAt (range 1 n))
+  pub outcome-range : outcome (accepted (map (cuttingOf n) (profile n m table))) ≡ sharedAs (map (shareOf (sheetOf n m table)) (range 1 n)) (map cutAt (range 1 n))
   outcome-range = outcome-each ∙ ap₂ sharedAs shares-range cuts-range

@@ -8,11 +8,11 @@ use Rattle.lists.specs.Lists.{range, nth, padded}
 use Rattle.lists.proofs.places.Places.{nth-padded-range}
 use Rattle.sheet.specs.Limits.{mostAgents, CountsWithin}
 use Rattle.sheet.specs.Answers.{Answer, refused, accepted}
-use Rattle.sheet.specs.Tables.{profile}
+use Rattle.sheet.specs.Contents.{Contents, valuationsOf}
 use Rattle.growth.specs.Growth.{growths}
-use Rattle.maximin.specs.Share.{maximinShare, maximinPartition}
+use Rattle.maximin.specs.Share.{maximinPartition}
 use Rattle.cut.specs.Outcome.{Cutting}
-use Rattle.shares.specs.Shares.{shareOf, sharing, sharingWithin}
+use Rattle.shares.specs.Shares.{shareOf, sharesOf, sharing, sharingWithin}
 use Rattle.shares.specs.Outcome.{cutOf, blankCut, outcome}
 use Rattle.shares.specs.Known.{SharesIn}
 use Rattle.shares.specs.declared.Answer.the-variants.{Refused, Shared}
@@ -33,33 +33,33 @@ shared-not-refused a number e is =
     let z : _≡_ {A = ℕ} 0 1 = cc in
     absurd (omega arith)
 
-module _ (n m : ℕ) (table : List (List ℕ)) where
+module _ (sheet : Contents) where
   -- shares are answered only where the counts are within the limits
-  pub answered-shared : outcome (sharing n m table) .answer ≡ Shared → CountsWithin n m
-  answered-shared e = ⊎-elim (λ w. w) (λ r. absurd (shared-not-refused (sharing n m table) (r .0) e (r .1))) (sharing-cases n m table)
+  pub answered-shared : outcome (sharing sheet) .answer ≡ Shared → CountsWithin (sheet .agents) (sheet .items)
+  answered-shared e = ⊎-elim (λ w. w) (λ r. absurd (shared-not-refused (sharing sheet) (r .0) e (r .1))) (sharing-cases sheet)
 
   -- and, with an allowance, only where it is enough
-  pub answered-shared-within : (allowance : ℕ) → outcome (sharingWithin n m table allowance) .answer ≡ Shared → CountsWithin n m × (growths n m ≤ allowance)
+  pub answered-shared-within : (allowance : ℕ) → outcome (sharingWithin sheet allowance) .answer ≡ Shared → CountsWithin (sheet .agents) (sheet .items) × (growths (sheet .agents) (sheet .items) ≤ allowance)
   answered-shared-within allowance e =
-      ⊎-elim (λ w. w) (λ r. absurd (shared-not-refused (sharingWithin n m table allowance) (r .0) e (r .1))) (sharingWithin-cases n m table allowance)
+      ⊎-elim (λ w. w) (λ r. absurd (shared-not-refused (sharingWithin sheet allowance) (r .0) e (r .1))) (sharingWithin-cases sheet allowance)
 
-  module _ (counts : CountsWithin n m) where
+  module _ (counts : CountsWithin (sheet .agents) (sheet .items)) where
     -- and there they are
-    pub outcome-within : outcome (sharing n m table) ≡ sharedAs (map (maximinShare n) (profile n m table)) (map cutOf (map (maximinPartition n) (profile n m table)))
-    outcome-within = ap outcome (sharing-within n m table counts) ∙ outcome-each n m table
+    pub outcome-within : outcome (sharing sheet) ≡ sharedAs (sharesOf sheet) (map cutOf (map (maximinPartition (sheet .agents)) (valuationsOf sheet)))
+    outcome-within = ap outcome (sharing-within sheet counts) ∙ outcome-each (sheet .agents) (sheet .items) (sheet .table)
 
-    pub shares-within : outcome (sharing n m table) .shares ≡ padded mostAgents 0 (map (maximinShare n) (profile n m table))
+    pub shares-within : outcome (sharing sheet) .shares ≡ padded mostAgents 0 (sharesOf sheet)
     shares-within = ap (λ o. o .shares) outcome-within
 
-    pub cuts-within : outcome (sharing n m table) .cuts ≡ padded mostAgents blankCut (map cutOf (map (maximinPartition n) (profile n m table)))
+    pub cuts-within : outcome (sharing sheet) .cuts ≡ padded mostAgents blankCut (map cutOf (map (maximinPartition (sheet .agents)) (valuationsOf sheet)))
     cuts-within = ap (λ o. o .cuts) outcome-within
 
 -- the share of an agent in use, where the shares are known
-module _ {n m : ℕ} {table : List (List ℕ)} {shares : List ℕ} (known : SharesIn n m table shares) {agent : ℕ} (in-use : Mem agent (range 1 n)) where
-  pub nth-shares-in : nth 0 shares agent ≡ shareOf n m table agent
+module _ {sheet : Contents} {shares : List ℕ} (known : SharesIn sheet shares) {agent : ℕ} (in-use : Mem agent (range 1 (sheet .agents))) where
+  pub nth-shares-in : nth 0 shares agent ≡ shareOf sheet agent
   nth-shares-in =
-      ap (λ l. nth 0 l agent) (known .each ∙ ap (padded mostAgents 0) (shares-range n m table)) ∙ nth-padded-range mostAgents 0 0 (shareOf n m table) n in-use
+      ap (λ l. nth 0 l agent) (known .each ∙ ap (padded mostAgents 0) (shares-range (sheet .agents) (sheet .items) (sheet .table))) ∙ nth-padded-range mostAgents 0 0 (shareOf sheet) (sheet .agents) in-use
 
   -- the same, by the shares agent after agent
-  pub nth-shares-known : nth 0 shares agent ≡ nth 0 (map (maximinShare n) (profile n m table)) agent
-  nth-shares-known = nth-shares-in ∙ sym (nth-shares n m table in-use)
+  pub nth-shares-known : nth 0 shares agent ≡ nth 0 (sharesOf sheet) agent
+  nth-shares-known = nth-shares-in ∙ sym (nth-shares (sheet .agents) (sheet .items) (sheet .table) in-use)

@@ -7,15 +7,16 @@ use Rattle.lists.specs.Lists.{range, nth}
 use Rattle.lists.proofs.ranges.Ranges.{nth-map-range}
 use Rattle.sheet.specs.Tables.{valuation, allValues, profile}
 use Rattle.sheet.proofs.valuing.Tables.{values-profile}
+use Rattle.sheet.specs.Contents.{sheetOf}
 use Rattle.maximin.specs.Share.{maximinShare, maximinPartition}
 use Rattle.shares.specs.Shares.{shareOf}
 
 module _ (n m : ℕ) (table : List (List ℕ)) {agent : ℕ} (in-use : Mem agent (range 1 n)) where
-  pub nth-shares : nth 0 (map (maximinShare n) (profile n m table)) agent ≡ shareOf n m table agent
+  pub nth-shares : nth 0 (map (maximinShare n) (profile n m table)) agent ≡ shareOf (sheetOf n m table) agent
   unfolding profile
   nth-shares =
       ap (λ l. nth 0 l agent) (map-map (maximinShare n) (λ i. allValues m (valuation table i)) (range 1 n))
-      ∙ nth-map-range (λ i. shareOf n m table i) 0 n in-use
+      ∙ nth-map-range (λ i. shareOf (sheetOf n m table) i) 0 n in-use
 
   pub nth-cuts : nth [] (map (maximinPartition n) (profile n m table)) agent ≡ maximinPartition n (allValues m (valuation table agent))
   unfolding profile
@@ -23,5 +24,5 @@ module _ (n m : ℕ) (table : List (List ℕ)) {agent : ℕ} (in-use : Mem agent
       ap (λ l. nth [] l agent) (map-map (maximinPartition n) (λ i. allValues m (valuation table i)) (range 1 n))
       ∙ nth-map-range (λ i. maximinPartition n (allValues m (valuation table i))) [] n in-use
 
-  pub shareOf-profile : shareOf n m (profile n m table) agent ≡ shareOf n m table agent
+  pub shareOf-profile : shareOf (sheetOf n m (profile n m table)) agent ≡ shareOf (sheetOf n m table) agent
   shareOf-profile = ap (maximinShare n) (values-profile n m table in-use (sublist-refl (range 1 m)))

@@ -15,6 +15,7 @@ use Rattle.lists.proofs.members.Counting.{all-mem}
 use Rattle.sheet.specs.Limits.{within}
 use Rattle.sheet.specs.Tables.{valuation, allValues}
 use Rattle.sheet.proofs.Limits.{each-within}
+use Rattle.sheet.specs.Contents.{sheetOf}
 use Rattle.maximin.specs.Share.{leastBundle}
 use Rattle.maximin.proofs.Laws.{maximinShare-of-total}
 use Rattle.shares.specs.Shares.{shareOf}
@@ -29,7 +30,7 @@ module _ (n m : ℕ) (table : List (List ℕ)) (share : ℕ) (partitions : List 
       let l = nth [] partitions agent in
       (all (within n) l && eqb (length l) (length (values agent))) && (eqb (leastBundle n (values agent) l) share && eqb (n * share) (total (values agent)))
 
-  pub shares-shown : all shows (range 1 n) ≡ true → (agent : ℕ) → 1 ≤ agent → agent ≤ n → shareOf n m table agent ≡ share
+  pub shares-shown : all shows (range 1 n) ≡ true → (agent : ℕ) → 1 ≤ agent → agent ≤ n → shareOf (sheetOf n m table) agent ≡ share
   shares-shown shown agent lo hi =
       let l = nth [] partitions agent in
       let (listed, worth) = and-eq-true-iff (all (within n) l && eqb (length l) (length (values agent))) (eqb (leastBundle n (values agent) l) share && eqb (n * share) (total (values agent))) .0

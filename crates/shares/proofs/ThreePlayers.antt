@@ -9,6 +9,7 @@ use Rattle.lists.specs.Lists.{range, nth}
 use Rattle.lists.specs.Sums.{total}
 use Rattle.sheet.specs.Tables.{valuation, allValues}
 use Rattle.sheet.specs.ThreePlayers.{players}
+use Rattle.sheet.specs.Contents.{sheetOf}
 use Rattle.maximin.specs.Share.{bundleValue}
 use Rattle.shares.specs.Shares.{shareOf}
 use Rattle.shares.proofs.Shown.{shares-shown}
@@ -33,9 +34,9 @@ pub three-players-bundles : map (λ i. map (λ c. bundleValue c (values i) (nth 
 three-players-bundles = refl
 
 -- so that is each player's share
-share-shown : (i : ℕ) → 1 ≤ i → i ≤ 3 → shareOf 3 12 players i ≡ 4055000
+share-shown : (i : ℕ) → 1 ≤ i → i ≤ 3 → shareOf (sheetOf 3 12 players) i ≡ 4055000
 share-shown = shares-shown 3 12 players 4055000 partitionsShown refl
 
-pub three-players-shares : map (shareOf 3 12 players) (range 1 3) ≡ replicate 3 4055000
+pub three-players-shares : map (shareOf (sheetOf 3 12 players)) (range 1 3) ≡ replicate 3 4055000
 three-players-shares =
     ap₂ _∷_ (share-shown 1 (omega arith) (omega arith)) (ap₂ _∷_ (share-shown 2 (omega arith) (omega arith)) (ap₂ _∷_ (share-shown 3 (omega arith) (omega arith)) refl))

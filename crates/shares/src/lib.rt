@@ -5,6 +5,7 @@ ghost use Prim.Native.Nat.{_≤_};
 ghost use Rattle.sheet.specs.Limits.{greatestSum, CountsWithin, InUse};
 ghost use Rattle.sheet.specs.Answers.{refused, accepted};
 ghost use Rattle.sheet.specs.Tables.{allValues, profile};
+ghost use Rattle.sheet.specs.Contents.{sheetOf, contents};
 ghost use Rattle.sheet.specs.Amounts.{SmallAmounts};
 ghost use Rattle.growth.specs.Growth.{growths};
 ghost use Rattle.cut.specs.Outcome.{cuttingOf};
@@ -16,9 +17,10 @@ use cut::Partition;
 use sheet::Row;
 use sheet::Sheet;
 use sheet::Table;
+use sheet::agents_allowed;
 use sheet::amounts::Amounts;
 use sheet::amounts::each_at_most;
-use sheet::is_within;
+use sheet::items_allowed;
 use sheet::naming::all_items;
 use sheet::valuing::value_of;
 
@@ -90,7 +92,7 @@ fn own_cuts(table: Table, agents: usize, items: usize, allowance: u32) -> Outcom
 
 // The makers' check, refusal 9: whether no agent's share times the number of agents exceeds the sum of its marks.
 fn shares_covered(table: Table, agents: usize, items: usize, shares: Amounts) -> bool
-    requires { ⌜ SharesIn agents items table shares ⌝ }
+    requires { ⌜ SharesIn (sheetOf agents items table) shares ⌝ }
     ensures { λ r. ⌜ r ≡ sharesCovered agents (profile agents items table) ⌝ }
 {
     let set = all_items(items);
@@ -124,7 +126,7 @@ fn refuse(number: u8) -> Outcome
 // makers' check fails.
 fn checked_cuts(table: Table, agents: usize, items: usize, allowance: u32) -> Outcome
     requires { ⌜ CountsWithin agents items × (growths agents items ≤ allowance) ⌝ }
-    ensures { λ r. ⌜ (r ≡ outcome (sharing agents items table)) × SmallAmounts (r .shares) ⌝ }
+    ensures { λ r. ⌜ (r ≡ outcome (sharing (sheetOf agents items table))) × SmallAmounts (r .shares) ⌝ }
 {
     let own = own_cuts(table, agents, items, allowance);
     let shares = own.shares;
@@ -137,13 +139,15 @@ fn checked_cuts(table: Table, agents: usize, items: usize, allowance: u32) -> Ou
 // The maximin share and the cut of each agent. Refused with 4 or 5 where the agents or the items lie outside the limits, with 9 where the
 // makers' check fails, and with 14 where the growth partitions of all items into as many bundles as agents outnumber the allowance. The
 // count for 14 is tried before anything is cut: within the limits 9 is never answered.
-pub fn share_each_within(table: Table, agents: usize, items: usize, allowance: u32) -> Outcome
-    ensures { λ r. ⌜ (r ≡ outcome (sharingWithin agents items table allowance)) × SmallAmounts (r .shares) ⌝ }
+pub fn share_each_within(table: Table, sheet: Sheet, allowance: u32) -> Outcome
+    ensures { λ r. ⌜ (r ≡ outcome (sharingWithin (contents sheet table) allowance)) × SmallAmounts (r .shares) ⌝ }
 {
-    if !is_within(agents, Sheet::AGENTS) {
+    let agents = sheet.agents;
+    let items = sheet.items;
+    if !agents_allowed(agents) {
         return refuse(4);
     }
-    if !is_within(items, Sheet::ITEMS) {
+    if !items_allowed(items) {
         return refuse(5);
     }
     if allowance < growth::count(items, agents) {
@@ -154,8 +158,8 @@ pub fn share_each_within(table: Table, agents: usize, items: usize, allowance: u
 
 // The maximin share and the cut of each agent, with an allowance that is enough for every table. Refused with 4 or 5 where the agents or
 // the items lie outside the limits, and with 9 where the makers' check fails.
-pub fn share_each(table: Table, agents: usize, items: usize) -> Outcome
-    ensures { λ r. ⌜ (r ≡ outcome (sharing agents items table)) × SmallAmounts (r .shares) ⌝ }
+pub fn share_each(table: Table, sheet: Sheet) -> Outcome
+    ensures { λ r. ⌜ (r ≡ outcome (sharing (contents sheet table))) × SmallAmounts (r .shares) ⌝ }
 {
-    share_each_within(table, agents, items, growth::MOST)
+    share_each_within(table, sheet, growth::MOST)
 }

@@ -3,7 +3,8 @@ use mathlib.Core.Path.{_≡_, ap, _∙_}
 use mathlib.Core.List.{List}
 use Prim.Native.Nat.{ℕ, _≤_}
 use Rattle.sheet.specs.Answers.{accepted, andThen}
-use Rattle.reading.specs.Reading.{Contents, reading}
+use Rattle.sheet.specs.Contents.{Contents}
+use Rattle.reading.specs.Reading.{reading}
 use Rattle.reading.proofs.Accepted.{accepted-text, accepted-carried, accepted-counts}
 use Rattle.reading.proofs.SmallMarks.{table-small}
 use Rattle.growth.specs.Growth.{growths}

@@ -5,7 +5,8 @@ use mathlib.Core.List.{List}
 use Prim.Native.Nat.{ℕ, _≤_}
 use Rattle.sheet.specs.Limits.{earlierMarkLimits}
 use Rattle.sheet.specs.Answers.{accepted}
-use Rattle.reading.specs.Reading.{Contents, readingWithin}
+use Rattle.sheet.specs.Contents.{Contents}
+use Rattle.reading.specs.Reading.{readingWithin}
 use Rattle.reading.proofs.WiderMarks.{accepted-before, answered-as-before}
 use Rattle.shares.specs.Shares.{standardAllowance}
 use Rattle.printing.specs.Printing.{longestPrinted}

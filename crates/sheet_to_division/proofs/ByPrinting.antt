@@ -3,9 +3,10 @@ use mathlib.Core.Path.{_≡_, refl}
 use mathlib.Core.List.{List}
 use Prim.Native.Nat.{ℕ}
 use Rattle.sheet.specs.Answers.{Answer, refused, accepted, andThen}
+use Rattle.sheet.specs.Contents.{Contents}
 use Rattle.sheet.proofs.Accepted.{andThen-assoc}
 use Rattle.writing.specs.Filled.{filling}
-use Rattle.reading.specs.Reading.{Contents, reading}
+use Rattle.reading.specs.Reading.{reading}
 use Rattle.rounds.specs.Division.{answer}
 use Rattle.printing.specs.Printing.{printing}
 use Rattle.sheet_to_division.specs.DividedFrom.{withDivision, dividedFrom}

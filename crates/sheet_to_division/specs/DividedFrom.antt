@@ -2,7 +2,8 @@
 use mathlib.Core.List.{List}
 use Prim.Native.Nat.{ℕ}
 use Rattle.sheet.specs.Answers.{Answer, accepted, andThen}
-use Rattle.reading.specs.Reading.{Contents, reading}
+use Rattle.sheet.specs.Contents.{Contents}
+use Rattle.reading.specs.Reading.{reading}
 use Rattle.rounds.specs.Division.{Division, divisionByRounds, answer}
 
 -- "an accepted sheet gets the division of its table" (document 01, "The two lists of demand 3")

@@ -2,8 +2,8 @@
 use mathlib.Core.List.{List}
 use Prim.Native.Nat.{ℕ}
 use Rattle.sheet.specs.Answers.{Answer, andThen}
+use Rattle.sheet.specs.Contents.{Contents}
 use Rattle.writing.specs.Filled.{filling}
-use Rattle.reading.specs.Reading.{Contents}
 use Rattle.rounds.specs.Division.{Division}
 use Rattle.printing.specs.Printed.{printed}
 use Rattle.sheet_to_division.specs.DividedFrom.{divisionOfSheet}

@@ -6,7 +6,8 @@ use lib.ListN.{length}
 use Rattle.sheet.specs.Answers.{Answer, refused, accepted, andThen, after}
 use Rattle.sheet.proofs.Accepted.{refused-not-accepted}
 use Rattle.sheet.specs.declared.Sheet.{Sheet}
-use Rattle.reading.specs.Reading.{Contents, reading}
+use Rattle.sheet.specs.Contents.{Contents}
+use Rattle.reading.specs.Reading.{reading}
 use Rattle.reading.proofs.Composed.{HasTable}
 use Rattle.reading.proofs.Accepted.{accepted-injective}
 use Rattle.writing.specs.Filled.{filled}

@@ -4,7 +4,8 @@ use mathlib.Core.List.{List}
 use Prim.Native.Nat.{ℕ}
 use lib.ListN.{length}
 use Rattle.sheet.specs.Answers.{Answer, accepted, andThen, after}
-use Rattle.reading.specs.Reading.{Contents, reading}
+use Rattle.sheet.specs.Contents.{Contents}
+use Rattle.reading.specs.Reading.{reading}
 use Rattle.writing.specs.Filled.{filled}
 use Rattle.writing.specs.Answered.{answered}
 use Rattle.writing.specs.declared.Answer as declared

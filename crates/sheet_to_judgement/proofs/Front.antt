@@ -7,9 +7,10 @@ use Rattle.sheet.specs.Limits.{mostAgents, mostItems, CountsWithin}
 use Rattle.sheet.specs.Answers.{Answer, refused, accepted}
 use Rattle.sheet.proofs.Limits.{within-bounds}
 use Rattle.sheet.specs.declared.Sheet.{Sheet}
+use Rattle.sheet.specs.Contents.{Contents}
 use Rattle.tokens.specs.Tokens.{Token}
 use Rattle.tokeniser.specs.Places.{tokensAt}
-use Rattle.reading.specs.Reading.{Contents, sheetOf, readingFront}
+use Rattle.reading.specs.Reading.{sheetAlone, readingFront}
 use Rattle.reading.specs.Outcome.{outcome, tableIn, frontFrom}
 use Rattle.reading.specs.declared.Answer.the-variants.{Refused, Accepted}
 use Rattle.reading.specs.declared.Front.{Front}
@@ -26,7 +27,7 @@ readingFront-counts text c behind e =
     let items = within-bounds mostItems (c .items) (a .items-within) in
     record { some = agents .0; few = agents .1; some-items = items .0; few-items = items .1 }
 
-refused-of : (a : Answer (Contents × List Token)) (number : ℕ) → outcome (sheetOf a) .answer ≡ Refused number → a ≡ refused number
+refused-of : (a : Answer (Contents × List Token)) (number : ℕ) → outcome (sheetAlone a) .answer ≡ Refused number → a ≡ refused number
 refused-of (refused k) number e = cc
 refused-of (accepted p) number e = cc
 
@@ -36,14 +37,14 @@ pub record FrontRead (text : List ℕ) (place : Cursor) (a : Answer (Contents ×
   pub is-accepted : a ≡ accepted (sheet, tokensAt text place)
   pub has-table : HasTable counts table sheet
 
-accepted-of : (s : List ℕ) (place : Cursor) (a : Answer (Contents × List Token)) (counts : Sheet) → outcome (sheetOf a) .answer ≡ Accepted counts
-    → ((sheet : Contents) (ts : List Token) → a ≡ accepted (sheet, ts) → tokensAt s place ≡ ts) → FrontRead s place a counts (tableIn (outcome (sheetOf a) .rows))
+accepted-of : (s : List ℕ) (place : Cursor) (a : Answer (Contents × List Token)) (counts : Sheet) → outcome (sheetAlone a) .answer ≡ Accepted counts
+    → ((sheet : Contents) (ts : List Token) → a ≡ accepted (sheet, ts) → tokensAt s place ≡ ts) → FrontRead s place a counts (tableIn (outcome (sheetAlone a) .rows))
 accepted-of s place (refused k) counts e left = let z : _≡_ {A = ℕ} 0 1 = cc in absurd (omega arith)
 accepted-of s place (accepted (sheet, ts)) counts e left =
     record { sheet = sheet; is-accepted = sym (ap (λ t. accepted (sheet, t)) (left sheet ts refl)); has-table = accepted-has-table sheet e }
 
 module _ (text : List ℕ) {front : Front} (read : front ≡ frontFrom text (readingFront text)) where
-  outcome-read : front .outcome ≡ outcome (sheetOf (readingFront text))
+  outcome-read : front .outcome ≡ outcome (sheetAlone (readingFront text))
   outcome-read = ap (λ f. f .outcome) read ∙ front-outcome text (readingFront text)
 
   tokens-left : (sheet : Contents) (ts : List Token) → readingFront text ≡ accepted (sheet, ts) → tokensAt text (front .next) ≡ ts

@@ -7,6 +7,7 @@ use Prim.Native.Nat.{ℕ}
 use lib.IntN.{ℤ, pos}
 use Rattle.sheet.specs.Answers.{accepted}
 use Rattle.sheet.specs.Tables.{profile}
+use Rattle.sheet.specs.Contents.{Contents}
 use Rattle.text.specs.Bytes.{bytes}
 use Rattle.text.specs.Decimal.{digitsIn, decimal, signed}
 use Rattle.tokens.specs.Lines.{onFirst, lines, beforeRemark}
@@ -15,7 +16,7 @@ use Rattle.lexing.specs.Forms as forms
 use Rattle.lexing.specs.Numbers as numbers
 use Rattle.sheet_lines.specs.Grammar as sheet
 use Rattle.sheet_lines.specs.Kept.{tableOf}
-use Rattle.reading.specs.Reading.{Contents, contentsOf, readingFront}
+use Rattle.reading.specs.Reading.{contentsOf, readingFront}
 use Rattle.maximin.specs.Share.{maximinShare, maximinPartition}
 use Rattle.shares.specs.Shares.{sharesCovered, sharing}
 use Rattle.terms.specs.Terms.{largestOdd, termsFor}

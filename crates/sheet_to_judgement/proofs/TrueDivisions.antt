@@ -12,9 +12,9 @@ use Rattle.sheet.specs.Limits.{greatestMark, sumDigits, longestText}
 use Rattle.sheet.specs.Answers.{accepted}
 use Rattle.sheet.specs.Valuations.{itemValue}
 use Rattle.sheet.specs.Tables.{valuation, profile}
+use Rattle.sheet.specs.Contents.{Contents}
 use Rattle.sheet.proofs.valuing.Tables.{value-allValues, value-small}
 use Rattle.tokens.specs.Tokens.{tokens}
-use Rattle.reading.specs.Reading.{Contents}
 use Rattle.reading.proofs.SmallMarks.{table-small}
 use Rattle.strict_text.specs.StrictText.{strictText, inUse}
 use Rattle.strict_text.specs.WithinLimits.{WithinLimits}

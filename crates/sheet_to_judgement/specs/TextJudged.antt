@@ -5,8 +5,9 @@ use mathlib.Core.Option.{some}
 use Prim.Native.Nat.{ℕ}
 use lib.IntN.{ℤ}
 use Rattle.sheet.specs.Answers.{Answer, accepted, andThen}
+use Rattle.sheet.specs.Contents.{Contents}
 use Rattle.tokens.specs.Tokens.{Token}
-use Rattle.reading.specs.Reading.{Contents, readingFront}
+use Rattle.reading.specs.Reading.{readingFront}
 use Rattle.writing.specs.Filled.{filling}
 use Rattle.grades.specs.Scale.{marginsByTable}
 use Rattle.division_reading.specs.Stated.{Stated}

@@ -6,7 +6,8 @@ use native.Mathlib.Omega.{arith}
 use lib.ListN.{length}
 use borrow.Author.Tests.{le-leb}
 use Rattle.sheet.specs.Answers.{accepted}
-use Rattle.reading.specs.Reading.{Contents, reading}
+use Rattle.sheet.specs.Contents.{Contents}
+use Rattle.reading.specs.Reading.{reading}
 use Rattle.strict_text.specs.StrictText.{strictText, longestStrict}
 use Rattle.strict_text.proofs.TextLength.{length-strictText}
 use Rattle.strict_text.proofs.RoundTrip.{reading-withinLimits}

@@ -4,8 +4,9 @@ use mathlib.Core.List.{List}
 use Prim.Native.Nat.{ℕ}
 use Rattle.sheet.specs.Limits.{earlierMarkLimits}
 use Rattle.sheet.specs.Answers.{accepted}
+use Rattle.sheet.specs.Contents.{Contents}
 use Rattle.writing.specs.Filled.{filling}
-use Rattle.reading.specs.Reading.{Contents, readingWithin}
+use Rattle.reading.specs.Reading.{readingWithin}
 use Rattle.reading.proofs.WiderMarks.{answered-as-before}
 use Rattle.strict_text.specs.StrictText.{strictText}
 use Rattle.sheet_to_strict.specs.Rewriting.{rewriting, rewritingBefore}

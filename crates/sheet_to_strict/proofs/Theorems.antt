@@ -9,8 +9,9 @@ use native.Mathlib.Omega.{arith}
 use lib.ListN.{length}
 use lib.Dec.{leb}
 use Rattle.sheet.specs.Answers.{Answer, refused, accepted, require, andThen}
+use Rattle.sheet.specs.Contents.{Contents}
 use Rattle.writing.specs.Filled.{filling}
-use Rattle.reading.specs.Reading.{Contents, reading}
+use Rattle.reading.specs.Reading.{reading}
 use Rattle.strict_text.specs.StrictText.{strictText, longestStrict}
 use Rattle.strict_text.specs.WithinLimits.{WithinLimits}
 use Rattle.reading.proofs.Accepted.{accepted-injective}

@@ -8,10 +8,11 @@ use lib.ListN.{length}
 use Rattle.text.specs.Bytes.{bytes}
 use Rattle.sheet.specs.Limits.{longestText}
 use Rattle.sheet.specs.Answers.{accepted}
+use Rattle.sheet.specs.Contents.{Contents}
 use Rattle.tokens.specs.Lines.{lineFeed}
 use Rattle.tokens.specs.Tokens.{tokens}
 use Rattle.tokens.proofs.texts.BehindLine.{tokens-behind-line}
-use Rattle.reading.specs.Reading.{Contents, reading, readingFront}
+use Rattle.reading.specs.Reading.{reading, readingFront}
 use Rattle.reading.proofs.AtFront.{passes-front}
 use Rattle.strict_text.specs.StrictText.{headText, bodyText, sheetText, linesOf, strictText}
 use Rattle.strict_text.specs.WithinLimits.{WithinLimits}

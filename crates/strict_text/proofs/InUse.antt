@@ -12,11 +12,12 @@ use Rattle.lists.proofs.places.Padding.{length-padded}
 use Rattle.lists.proofs.members.Each.{AllOfLength, each-append, each-take, each-map, each-replicate}
 use Rattle.sheet.specs.Limits.{MarkLimits, mostAgents, mostItems, blankRow}
 use Rattle.sheet.specs.Answers.{accepted}
+use Rattle.sheet.specs.Contents.{Contents}
 use Rattle.tokens.specs.Tokens.{Token}
 use Rattle.sheet_lines.specs.Grammar.{Body, body}
 use Rattle.sheet_lines.specs.Kept.{tableOf}
 use Rattle.sheet_lines.proofs.Shape.{lines-shape}
-use Rattle.reading.specs.Reading.{Contents, contentsOf}
+use Rattle.reading.specs.Reading.{contentsOf}
 use Rattle.reading.proofs.Accepted.{contentsOf-carried}
 use Rattle.strict_text.specs.StrictText.{yardText, yardTexts, inUse, linesOf}
 

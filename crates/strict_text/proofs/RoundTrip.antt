@@ -11,8 +11,9 @@ use lib.ListN.{length}
 use borrow.Author.Tests.{le-leb, lt-ltb}
 use Rattle.lists.specs.Lists.{all}
 use Rattle.lists.proofs.members.Each.{AllOfLength}
-use Rattle.sheet.specs.Limits.{mostAgents, mostItems, greatestMark, markDigits, markLimits, longestText, within}
+use Rattle.sheet.specs.Limits.{mostAgents, mostItems, greatestMark, markDigits, markLimits, longestText, within, agentsAllowed, itemsAllowed}
 use Rattle.sheet.specs.Answers.{accepted}
+use Rattle.sheet.specs.Contents.{Contents}
 use Rattle.sheet.proofs.Limits.{within-bounds}
 use Rattle.tokens.specs.Tokens.{Token, tokens}
 use Rattle.lexing.specs.Forms.{form}
@@ -21,7 +22,7 @@ use Rattle.sheet_lines.specs.SheetForms.{lastLine}
 use Rattle.sheet_lines.specs.Grammar.{head, Body}
 use Rattle.sheet_lines.specs.Marks.{allowedRow}
 use Rattle.sheet_lines.specs.Kept.{tableOf}
-use Rattle.reading.specs.Reading.{Contents, reading}
+use Rattle.reading.specs.Reading.{reading}
 use Rattle.reading.proofs.Accepted.{AcceptedText, carried-contentsOf, passes-sheet, accepted-injective, accepted-text, accepted-carried}
 use Rattle.strict_text.specs.StrictText.{headText, sheetText, linesOf, strictText}
 use Rattle.strict_text.specs.WithinLimits.{WithinLimits}
@@ -114,7 +115,7 @@ strictText-same-iff s t c d e f =
     (λ same. accepted-injective c d (sym back-c ∙ ap reading same ∙ back-d), ap strictText)
 
 -- whatever stands in the places that are not in use, the strict text is read to the marks in use
-pub strictText-read-inUse : (c : Contents) → within mostAgents (c .agents) ≡ true → within mostItems (c .items) ≡ true
+pub strictText-read-inUse : (c : Contents) → agentsAllowed (c .agents) ≡ true → itemsAllowed (c .items) ≡ true
     → length (c .table) ≡ mostAgents → AllOfLength mostItems (c .table) → all (allowedRow greatestMark) (linesOf c .rows) ≡ true
     → reading (strictText c) ≡ accepted (blankedBeyond c)
 unfolding strictText

@@ -11,8 +11,8 @@ use Rattle.lists.proofs.members.Each.{Each, AllOfLength}
 use Rattle.text.specs.Decimal.{decimal, spacedNumbers}
 use Rattle.text.proofs.Decimal.{decimal-length}
 use Rattle.sheet.specs.Limits.{mostItems, greatestMark, markDigits}
+use Rattle.sheet.specs.Contents.{Contents}
 use Rattle.sheet_lines.specs.Marks.{allowed, allowedRow}
-use Rattle.reading.specs.Reading.{Contents}
 use Rattle.strict_text.specs.StrictText.{headText, yardText, yardTexts, inUse, bodyText, sheetText, strictText, longestHead, longestYard, longestStrict}
 use Rattle.strict_text.specs.WithinLimits.{WithinLimits}
 use Rattle.strict_text.proofs.WithinLimits.{agents-bounds, items-bounds, rows-in-use, marks-in-use}

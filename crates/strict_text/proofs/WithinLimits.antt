@@ -6,8 +6,8 @@ use native.Mathlib.Omega.{arith}
 use lib.ListN.{length}
 use Rattle.lists.proofs.members.Each.{AllOfLength}
 use Rattle.sheet.specs.Limits.{mostAgents, mostItems}
+use Rattle.sheet.specs.Contents.{Contents}
 use Rattle.sheet.proofs.Limits.{within-bounds}
-use Rattle.reading.specs.Reading.{Contents}
 use Rattle.strict_text.specs.StrictText.{inUse}
 use Rattle.strict_text.specs.WithinLimits.{WithinLimits}
 use Rattle.strict_text.proofs.InUse.{inUse-rows, inUse-places, tableOf-rows, tableOf-places}

@@ -6,9 +6,9 @@ use lib.ListN.{take}
 use Rattle.text.specs.Bytes.{bytes}
 use Rattle.text.specs.Decimal.{spacedNumber, spacedNumbers}
 use Rattle.sheet.specs.Limits.{mostAgents, mostItems, markDigits}
+use Rattle.sheet.specs.Contents.{Contents}
 use Rattle.sheet_lines.specs.SheetForms.{beforeAgents, beforeItems, beforeTurn, beforeMarks, lineEnd, lastLine}
 use Rattle.sheet_lines.specs.Grammar.{Body}
-use Rattle.reading.specs.Reading.{Contents}
 
 -- "The first line gives the counts": (sheet (yards 2) (pieces 3))
 unfoldable pub headText : ℕ → ℕ → List ℕ

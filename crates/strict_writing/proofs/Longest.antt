@@ -12,8 +12,8 @@ use denote.Shadow.{shadow}
 use Rattle.lists.proofs.members.Each.{Each, each-take, each-map}
 use Rattle.text.proofs.Decimal.{decimal-length}
 use Rattle.sheet.specs.Limits.{mostAgents, mostItems, greatestMark}
+use Rattle.sheet.specs.Contents.{Contents}
 use Rattle.sheet.proofs.Limits.{markWidth}
-use Rattle.reading.specs.Reading.{Contents}
 use Rattle.strict_text.specs.StrictText.{headText, inUse, bodyText, sheetText, strictText, longestYard}
 use Rattle.strict_text.proofs.TextLength.{SmallRow, yards-length}
 

@@ -10,7 +10,7 @@ use lib.Dec.{leb, ltb}
 use lib.ListN.{length}
 use borrow.Author.Needs.{needs}
 use borrow.Author.Tests.{lt-leb, le-leb, lt-ltb, not-true, not-false}
-use Rattle.sheet.specs.Limits.{longestText, mostAgents, mostItems, markDigits, within}
+use Rattle.sheet.specs.Limits.{longestText, mostAgents, mostItems, markDigits, within, agentsAllowed, itemsAllowed}
 use Rattle.sheet.specs.Answers
 use Rattle.sheet.proofs.Limits.{within-bounds}
 use Rattle.tokens.specs.Tokens.{tokens}
@@ -64,18 +64,18 @@ head-read c =
     let read = c .before .before in
     rw (read .before .start .ensures, tokens-start) at (head-to (textOf (read .before .before)) (read .before .start .result) (read .read-head .ensures) (c .agents .given .1))
 
-agents-within : (c : tie.Else3) → within mostAgents (counts-read c .agents .given .0 .0) ≡ true
-agents-within c = sym (c .before .is-within .ensures) ∙ not-false _ (c .if3 .left)
+agents-within : (c : tie.Else3) → agentsAllowed (counts-read c .agents .given .0 .0) ≡ true
+agents-within c = sym (c .before .agents-allowed .ensures) ∙ not-false _ (c .if3 .left)
 
-items-within : (c : tie.Else4) → within mostItems (counts-read (agents-passed c) .agents .given .0 .1 .0) ≡ true
-items-within c = sym (c .before .is-within2 .ensures) ∙ not-false _ (c .if4 .left)
+items-within : (c : tie.Else4) → itemsAllowed (counts-read (agents-passed c) .agents .given .0 .1 .0) ≡ true
+items-within c = sym (c .before .items-allowed .ensures) ∙ not-false _ (c .if4 .left)
 
 -- all tests before the yard lines
 before-lines : (c : tie.Else4) → let h = counts-read (agents-passed c) in
     let text = textOf (byte-passed h) in
     (leb (length text) longestText ≡ true) × (ltb 0 (length text) ≡ true)
     × (head (tokens text) ≡ some (h .agents .given .0 .0, h .agents .given .0 .1 .0, tokensAt text (h .agents .given .0 .1 .1 .0)))
-    × (within mostAgents (h .agents .given .0 .0) ≡ true) × (within mostItems (h .agents .given .0 .1 .0) ≡ true)
+    × (agentsAllowed (h .agents .given .0 .0) ≡ true) × (itemsAllowed (h .agents .given .0 .1 .0) ≡ true)
 before-lines c =
     let a = agents-passed c in
     let h = counts-read a in
@@ -158,8 +158,8 @@ returns-3 c =
     let missed = sym (from-start at-head) ∙ head-missed _ _ (at-head .read-head .ensures) (c .before .enum-told .given .1) in
     rw (short b, some-byte b, missed) (refusal _ (c .refused3 .ensures))
 
-is-within-requires : tie.Need-is-within-requires
-is-within-requires c κs = search needs
+agents-allowed-requires : tie.Need-agents-allowed-requires
+agents-allowed-requires c κs = search needs
 
 refused-requires-4 : tie.Need-refused-requires-4
 refused-requires-4 c κs = search needs
@@ -168,11 +168,11 @@ returns-4 : tie.Need-returns-4
 returns-4 c =
     let h = c .before .before .before .before in
     let b = byte-passed h in
-    let outside = sym (c .before .before .is-within .ensures) ∙ not-true _ (c .before .if3 .taken) in
+    let outside = sym (c .before .before .agents-allowed .ensures) ∙ not-true _ (c .before .if3 .taken) in
     rw (short b, some-byte b, head-read h .read, outside) (refusal _ (c .refused4 .ensures))
 
-is-within-requires-2 : tie.Need-is-within-requires-2
-is-within-requires-2 c κs = search needs
+items-allowed-requires : tie.Need-items-allowed-requires
+items-allowed-requires c κs = search needs
 
 refused-requires-5 : tie.Need-refused-requires-5
 refused-requires-5 c κs = search needs
@@ -182,7 +182,7 @@ returns-5 c =
     let a = c .before .before .before in
     let h = counts-read a in
     let b = byte-passed h in
-    let outside = sym (c .before .before .is-within2 .ensures) ∙ not-true _ (c .before .if4 .taken) in
+    let outside = sym (c .before .before .items-allowed .ensures) ∙ not-true _ (c .before .if4 .taken) in
     rw (short b, some-byte b, head-read h .read, agents-within a, outside) (refusal _ (c .refused5 .ensures))
 
 read-body-requires : tie.Need-read-body-requires
@@ -262,10 +262,10 @@ sheet-at-front-spec =
     enum-told
     refused-requires-3
     returns-3
-    is-within-requires
+    agents-allowed-requires
     refused-requires-4
     returns-4
-    is-within-requires-2
+    items-allowed-requires
     refused-requires-5
     returns-5
     read-body-requires

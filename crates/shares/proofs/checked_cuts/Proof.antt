@@ -4,10 +4,10 @@ use mathlib.Core.Bool.{Bool}
 use mathlib.Core.List.{map}
 use borrow.Author.Needs.{needs}
 use borrow.Author.Tests.{not-true, not-false}
-use Rattle.sheet.specs.Limits.{mostAgents, mostItems}
 use Rattle.sheet.specs.Answers.{accepted, require}
 use Rattle.sheet.specs.Tables.{profile}
-use Rattle.sheet.proofs.Limits.{within-both, counts-in-use}
+use Rattle.sheet.specs.Contents.{sheetOf}
+use Rattle.sheet.proofs.Limits.{counts-allowed, counts-in-use}
 use Rattle.cut.specs.Outcome.{cuttingOf}
 use Rattle.shares.specs.Shares.{sharing}
 use Rattle.shares.specs.Outcome.{outcome}
@@ -19,12 +19,12 @@ use Rattle.shares.proofs.checked_cuts.Tie as tie
 -- the answer by the test of refusal 9
 tested : (c : tie.After-shares-covered) (b : Bool) → c .shares-covered .result ≡ b
     → let a = c .before .before .before .args in
-    sharing (a .agents) (a .items) (a .table) ≡ require 9 b (accepted (map (cuttingOf (a .agents)) (profile (a .agents) (a .items) (a .table))))
+    sharing (sheetOf (a .agents) (a .items) (a .table)) ≡ require 9 b (accepted (map (cuttingOf (a .agents)) (profile (a .agents) (a .items) (a .table))))
 tested c b e =
     let s = c .before .before .before in
     let a = s .args in
-    let w = s .pre .0 in
-    sharing-counts-within (a .agents) (a .items) (a .table) (within-both mostAgents (a .agents) (w .some) (w .few)) (within-both mostItems (a .items) (w .some-items) (w .few-items))
+    let allowed = counts-allowed (a .agents) (a .items) (s .pre .0) in
+    sharing-counts-within (sheetOf (a .agents) (a .items) (a .table)) (allowed .0) (allowed .1)
     ∙ ap (λ t. require 9 t (accepted (map (cuttingOf (a .agents)) (profile (a .agents) (a .items) (a .table))))) (sym (c .shares-covered .ensures) ∙ e)
 
 own-cuts-requires : tie.Need-own-cuts-requires

@@ -10,6 +10,7 @@ use Rattle.lists.proofs.places.Zeros.{getD-zeros}
 use Rattle.lists.proofs.places.Padding.{padded-range}
 use Rattle.lists.proofs.places.Places.{nth-next, store-small}
 use Rattle.sheet.specs.Limits.{mostAgents, greatestSum}
+use Rattle.sheet.specs.Contents.{sheetOf}
 use Rattle.sheet.specs.Tables.{valuation, allValues}
 use Rattle.sheet.specs.Amounts.{SmallAmounts}
 use Rattle.shares.specs.Shares.{shareOf}
@@ -23,7 +24,7 @@ use Rattle.shares.proofs.own_cuts.Statement.{statement}
 use Rattle.shares.proofs.own_cuts.Tie as tie
 
 abbrev Inv-loop : tie.InvT-loop
-Inv-loop agents items allowance table shares₀ cuts₀ i₀ shares cuts i = (i ≤ agents) × (shares ≡ padded mostAgents 0 (map (shareOf agents items table) (range 1 i))) × (cuts ≡ padded mostAgents blankCut (map (cutAt agents items table) (range 1 i))) × SmallAmounts shares
+Inv-loop agents items allowance table shares₀ cuts₀ i₀ shares cuts i = (i ≤ agents) × (shares ≡ padded mostAgents 0 (map (shareOf (sheetOf agents items table)) (range 1 i))) × (cuts ≡ padded mostAgents blankCut (map (cutAt agents items table) (range 1 i))) × SmallAmounts shares
 
 abbrev μ-loop : tie.MeasureT-loop
 μ-loop agents items allowance table shares₀ cuts₀ i₀ shares cuts i = agents - i
@@ -80,7 +81,7 @@ loop-again c =
     let read = own-read (c .before) in (
       omega arith,
       ap (λ shares. store shares (l .i) (own .result .share)) (l .inv .1)
-          ∙ padded-range mostAgents 0 (shareOf (a .agents) (a .items) (a .t1)) (l .i) (own .result .share) (omega arith) (ap (λ o. o .share) read),
+          ∙ padded-range mostAgents 0 (shareOf (sheetOf (a .agents) (a .items) (a .t1))) (l .i) (own .result .share) (omega arith) (ap (λ o. o .share) read),
       ap (λ cuts. store cuts (l .i) (own .result .cut)) (l .inv .2)
           ∙ padded-range mostAgents blankCut (cutAt (a .agents) (a .items) (a .t1)) (l .i) (own .result .cut) (omega arith) (ap (λ o. o .cut) read),
       store-small greatestSum (l .shares) (l .i) (own .result .share) (own .ensures .1) (l .inv .3),

@@ -2,6 +2,7 @@
 use mathlib.Core.Path.{ap, _∙_}
 use native.Mathlib.Omega.{arith}
 use borrow.Author.Needs.{needs}
+use Rattle.sheet.specs.Contents.{contents}
 use Rattle.growth.proofs.Growths.{mostGrowths}
 use Rattle.shares.specs.Outcome.{outcome}
 use Rattle.shares.proofs.Allowance.{sharingWithin-most}
@@ -15,7 +16,7 @@ returns : tie.Need-returns
 returns c =
     let a = c .before .args in
     let told = c .share-each-within .ensures in
-    (told .0 ∙ ap outcome (sharingWithin-most (a .agents) (a .items) (a .table) mostGrowths (omega arith)), told .1)
+    (told .0 ∙ ap outcome (sharingWithin-most (contents (a .sheet) (a .table)) mostGrowths (omega arith)), told .1)
 
 pub share-each-spec : {M : Type 1} → statement M
 share-each-spec =

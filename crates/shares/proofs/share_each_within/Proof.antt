@@ -6,8 +6,9 @@ use Prim.Native.Nat.{_≤_, _<_, min}
 use native.Mathlib.Omega.{arith}
 use borrow.Author.Tests.{not-true, not-false}
 use borrow.Author.Needs.{needs}
-use Rattle.sheet.specs.Limits.{mostAgents, mostItems, within, CountsWithin}
-use Rattle.sheet.proofs.Limits.{within-bounds}
+use Rattle.sheet.specs.Limits.{mostAgents, mostItems, agentsAllowed, itemsAllowed, CountsWithin}
+use Rattle.sheet.specs.Contents.{contents}
+use Rattle.sheet.proofs.Limits.{counts-within}
 use Rattle.growth.specs.Growth.{growths}
 use Rattle.shares.specs.Outcome.{outcome}
 use Rattle.shares.proofs.Refusals.{sharing-agents-outside, sharing-items-outside}
@@ -15,39 +16,35 @@ use Rattle.shares.proofs.Allowance.{sharingWithin-refused, sharingWithi
 use Rattle.shares.proofs.share_each_within.Statement.{statement}
 use Rattle.shares.proofs.share_each_within.Tie as tie
 
--- the counts are within the limits
-agents-within : (c : tie.Else1) → within mostAgents (c .before .before .args .agents) ≡ true
-agents-within c = sym (c .before .is-within .ensures) ∙ not-false _ (c .if1 .left)
+-- both counts are allowed
+agents-within : (c : tie.Else1) → agentsAllowed (c .before .before .args .sheet .agents) ≡ true
+agents-within c = sym (c .before .agents-allowed .ensures) ∙ not-false _ (c .if1 .left)
 
 -- the start, before the point where both counts are tried
 abbrev start : tie.Else2 → tie.Start
 start c = c .before .before .before .before
 
-items-within : (c : tie.Else2) → within mostItems (start c .args .items) ≡ true
-items-within c = sym (c .before .is-within2 .ensures) ∙ not-false _ (c .if2 .left)
+items-within : (c : tie.Else2) → itemsAllowed (start c .args .sheet .items) ≡ true
+items-within c = sym (c .before .items-allowed .ensures) ∙ not-false _ (c .if2 .left)
 
-counts-within : (c : tie.Else2) → let a = start c .args in CountsWithin (a .agents) (a .items)
-counts-within c =
-    let a = start c .args in
-    let agents = within-bounds mostAgents (a .agents) (agents-within (c .before .before)) in
-    let items = within-bounds mostItems (a .items) (items-within c) in
-    record { some = agents .0; few = agents .1; some-items = items .0; few-items = items .1 }
+within-limits : (c : tie.Else2) → let sheet = start c .args .sheet in CountsWithin (sheet .agents) (sheet .items)
+within-limits c = let sheet = start c .args .sheet in counts-within (sheet .agents) (sheet .items) (agents-within (c .before .before)) (items-within c)
 
 -- the number that the allowance is held against
-counted : (c : tie.After-count) → let a = start (c .before) .args in c .count .result ≡ growths (a .agents) (a .items)
+counted : (c : tie.After-count) → let sheet = start (c .before) .args .sheet in c .count .result ≡ growths (sheet .agents) (sheet .items)
 counted c =
-    let a = start (c .before) .args in
-    let w = counts-within (c .before) in
-    let agents : min (a .agents) mostAgents ≡ a .agents = omega (arith, w .few) in
-    let items : min (a .items) mostItems ≡ a .items = omega (arith, w .few-items) in
+    let sheet = start (c .before) .args .sheet in
+    let w = within-limits (c .before) in
+    let agents : min (sheet .agents) mostAgents ≡ sheet .agents = omega (arith, w .few) in
+    let items : min (sheet .items) mostItems ≡ sheet .items = omega (arith, w .few-items) in
     c .count .ensures ∙ ap₂ growths agents items
 
 -- the allowance is enough
-enough : (c : tie.Else3) → let a = start (c .before .before) .args in growths (a .agents) (a .items) ≤ a .allowance
+enough : (c : tie.Else3) → let a = start (c .before .before) .args in growths (a .sheet .agents) (a .sheet .items) ≤ a .allowance
 enough c = omega (arith, counted (c .before), c .if3 .left)
 
-is-within-requires : tie.Need-is-within-requires
-is-within-requires c κs = search needs
+agents-allowed-requires : tie.Need-agents-allowed-requires
+agents-allowed-requires c κs = search needs
 
 refuse-requires : tie.Need-refuse-requires
 refuse-requires c κs = search needs
@@ -55,12 +52,12 @@ refuse-requires c κs = search needs
 returns : tie.Need-returns
 returns c =
     let a = c .before .before .before .args in
-    let outside = sym (c .before .before .is-within .ensures) ∙ not-true _ (c .before .if1 .taken) in
-    let refused-4 = sharingWithin-refused (a .agents) (a .items) (a .table) (a .allowance) 4 (sharing-agents-outside (a .agents) (a .items) (a .table) outside) in
+    let outside = sym (c .before .before .agents-allowed .ensures) ∙ not-true _ (c .before .if1 .taken) in
+    let refused-4 = sharingWithin-refused (contents (a .sheet) (a .table)) (a .allowance) 4 (sharing-agents-outside (contents (a .sheet) (a .table)) outside) in
     (c .refuse .ensures .0 ∙ ap outcome (sym refused-4), c .refuse .ensures .1)
 
-is-within-requires-2 : tie.Need-is-within-requires-2
-is-within-requires-2 c κs = search needs
+items-allowed-requires : tie.Need-items-allowed-requires
+items-allowed-requires c κs = search needs
 
 refuse-requires-2 : tie.Need-refuse-requires-2
 refuse-requires-2 c κs = search needs
@@ -69,8 +66,8 @@ returns-2 : tie.Need-returns-2
 returns-2 c =
     let e = c .before .before .before in
     let a = e .before .before .args in
-    let outside = sym (c .before .before .is-within2 .ensures) ∙ not-true _ (c .before .if2 .taken) in
-    let refused-5 = sharingWithin-refused (a .agents) (a .items) (a .table) (a .allowance) 5 (sharing-items-outside (a .agents) (a .items) (a .table) (agents-within e) outside) in
+    let outside = sym (c .before .before .items-allowed .ensures) ∙ not-true _ (c .before .if2 .taken) in
+    let refused-5 = sharingWithin-refused (contents (a .sheet) (a .table)) (a .allowance) 5 (sharing-items-outside (contents (a .sheet) (a .table)) (agents-within e) outside) in
     (c .refuse2 .ensures .0 ∙ ap outcome (sym refused-5), c .refuse2 .ensures .1)
 
 count-requires : tie.Need-count-requires
@@ -83,27 +80,27 @@ returns-3 : tie.Need-returns-3
 returns-3 c =
     let t = c .before .before in
     let a = start (t .before) .args in
-    let short : a .allowance < growths (a .agents) (a .items) = omega (arith, counted t, c .before .if3 .taken) in
-    let refused-14 = sharingWithin-short (a .agents) (a .items) (a .table) (a .allowance) (counts-within (t .before)) short in
+    let short : a .allowance < growths (a .sheet .agents) (a .sheet .items) = omega (arith, counted t, c .before .if3 .taken) in
+    let refused-14 = sharingWithin-short (contents (a .sheet) (a .table)) (a .allowance) (within-limits (t .before)) short in
     (c .refuse3 .ensures .0 ∙ ap outcome (sym refused-14), c .refuse3 .ensures .1)
 
 checked-cuts-requires : tie.Need-checked-cuts-requires
-checked-cuts-requires c κs = (counts-within (c .before .before), enough c)
+checked-cuts-requires c κs = (within-limits (c .before .before), enough c)
 
 returns-4 : tie.Need-returns-4
 returns-4 c =
     let t = c .before .before in
     let a = start (t .before) .args in
-    (c .checked-cuts .ensures .0 ∙ ap outcome (sym (sharingWithin-enough (a .agents) (a .items) (a .table) (a .allowance) (enough (c .before)))), c .checked-cuts .ensures .1)
+    (c .checked-cuts .ensures .0 ∙ ap outcome (sym (sharingWithin-enough (contents (a .sheet) (a .table)) (a .allowance) (enough (c .before)))), c .checked-cuts .ensures .1)
 
 pub share-each-within-spec : {M : Type 1} → statement M
 share-each-within-spec =
     tie.close
     (tie.spec
-    is-within-requires
+    agents-allowed-requires
     refuse-requires
     returns
-    is-within-requires-2
+    items-allowed-requires
     refuse-requires-2
     returns-2
     count-requires

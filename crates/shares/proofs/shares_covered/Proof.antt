@@ -15,6 +15,7 @@ use Rattle.lists.proofs.places.Places.{nth-next, nth-padded-range}
 use Rattle.sheet.specs.Limits.{mostAgents, mostItems}
 use Rattle.sheet.specs.Sets.{itemsOf, setOf}
 use Rattle.sheet.specs.Valuations.{value}
+use Rattle.sheet.specs.Contents.{sheetOf}
 use Rattle.sheet.specs.Tables.{allValues}
 use Rattle.sheet.specs.Amounts.{eachAtMost}
 use Rattle.sheet.proofs.amounts.Comparing.{eachAtMost-all}
@@ -25,7 +26,7 @@ use Rattle.shares.proofs.shares_covered.Statement.{statement}
 use Rattle.shares.proofs.shares_covered.Tie as tie
 
 abbrev Inv-loop : tie.InvT-loop
-Inv-loop agents items table shares set multiples₀ totals₀ i₀ multiples totals i = (i ≤ agents) × (multiples ≡ padded mostAgents 0 (map (λ k. agents * shareOf agents items table k) (range 1 i))) × (totals ≡ padded mostAgents 0 (map (totalOf agents items table) (range 1 i)))
+Inv-loop agents items table shares set multiples₀ totals₀ i₀ multiples totals i = (i ≤ agents) × (multiples ≡ padded mostAgents 0 (map (λ k. agents * shareOf (sheetOf agents items table) k) (range 1 i))) × (totals ≡ padded mostAgents 0 (map (totalOf agents items table) (range 1 i)))
 
 abbrev μ-loop : tie.MeasureT-loop
 μ-loop agents items table shares set multiples₀ totals₀ i₀ multiples totals i = agents - i
@@ -40,14 +41,14 @@ start c = c .before .before
 -- the share that is read at agent i + 1
 share-read : (c : tie.In-loop Inv-loop μ-loop)
     → let a = start (c .before) .args in
-    getD (a .t4) (c .before .loop .i) 0 ≡ shareOf (a .agents) (a .items) (a .t1) (c .before .loop .i + 1)
+    getD (a .t4) (c .before .loop .i) 0 ≡ shareOf (sheetOf (a .agents) (a .items) (a .t1)) (c .before .loop .i + 1)
 share-read c =
     let s = start (c .before) in
     let a = s .args in
     let i = c .before .loop .i in
     sym (nth-next 0 (a .t4) i)
     ∙ ap (λ l. nth 0 l (i + 1)) (s .pre .each ∙ ap (padded mostAgents 0) (shares-range (a .agents) (a .items) (a .t1)))
-    ∙ nth-padded-range mostAgents 0 0 (shareOf (a .agents) (a .items) (a .t1)) (a .agents) (in-range 1 (a .agents) (i + 1) (omega arith) (omega arith))
+    ∙ nth-padded-range mostAgents 0 0 (shareOf (sheetOf (a .agents) (a .items) (a .t1))) (a .agents) (in-range 1 (a .agents) (i + 1) (omega arith) (omega arith))
 
 -- the value of all items to agent i + 1
 total-read : (c : tie.After-value-of Inv-loop μ-loop)
@@ -116,7 +117,7 @@ loop-again c =
     let share = getD (a .t4) (l .i) 0 in (
       omega arith,
       ap (λ multiples. store multiples (l .i) (a .agents * share)) (l .inv .1)
-          ∙ padded-range mostAgents 0 (λ k. a .agents * shareOf (a .agents) (a .items) (a .t1) k) (l .i) (a .agents * share) (omega arith) (ap (λ v. a .agents * v) (share-read (c .before .before))),
+          ∙ padded-range mostAgents 0 (λ k. a .agents * shareOf (sheetOf (a .agents) (a .items) (a .t1)) k) (l .i) (a .agents * share) (omega arith) (ap (λ v. a .agents * v) (share-read (c .before .before))),
       ap (λ totals. store totals (l .i) (c .value-of .result)) (l .inv .2)
           ∙ padded-range mostAgents 0 (totalOf (a .agents) (a .items) (a .t1)) (l .i) (c .value-of .result) (omega arith) (total-read c),
     )
@@ -131,7 +132,7 @@ returns c =
     let l = c .before .before .loop in
     let e : l .i ≡ a .agents = omega arith in
     let few : min (a .agents) mostAgents ≡ a .agents = omega arith in
-    let multiple : ℕ → ℕ = λ k. a .agents * shareOf (a .agents) (a .items) (a .t1) k in
+    let multiple : ℕ → ℕ = λ k. a .agents * shareOf (sheetOf (a .agents) (a .items) (a .t1)) k in
     let sum : ℕ → ℕ = totalOf (a .agents) (a .items) (a .t1) in
     c .each-at-most .ensures
     ∙ ap (eachAtMost (l .multiples) (l .totals)) few

@@ -4,8 +4,8 @@ use mathlib.Core.List.{List}
 use Prim.Native.Nat.{ℕ}
 use lib.ListN.{length}
 use Rattle.sheet.specs.Answers.{Answer, after}
+use Rattle.sheet.specs.Contents.{Contents}
 use Rattle.writing.specs.Filled.{filling, filled}
-use Rattle.reading.specs.Reading.{Contents}
 use Rattle.reading.proofs.Composed.{refused-read, accepted-read}
 use Rattle.strict_text.specs.StrictText.{strictText}
 use Rattle.writing.specs.Answered.{answered}
