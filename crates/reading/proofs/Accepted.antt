@@ -8,11 +8,11 @@ use native.Mathlib.Omega.{arith}
 use lib.ListN.{length}
 use lib.Dec.{leb, ltb}
 use Rattle.lists.specs.Lists.{all}
-use Rattle.sheet.specs.Limits.{MarkLimits, longestText, mostAgents, mostItems, markLimits, within, CountsWithin, agentsAllowed, itemsAllowed}
+use Rattle.sheet.specs.Limits.{MarkLimits, longestText, markLimits, CountsWithin, agentsAllowed, itemsAllowed}
 use Rattle.sheet.specs.Answers.{Answer, refused, accepted, andThen}
 use Rattle.sheet.specs.Contents.{Contents}
 use Rattle.sheet.proofs.Accepted.{refused-not-accepted, required, requiredSome}
-use Rattle.sheet.proofs.Limits.{within-bounds}
+use Rattle.sheet.proofs.Limits.{counts-within}
 use Rattle.tokens.specs.Tokens.{Token, tokens}
 use Rattle.lexing.specs.Forms.{_>>=_, ended, form, follow}
 use Rattle.sheet_lines.specs.SheetForms.{lastLine}
@@ -161,6 +161,4 @@ accepted-carried text c read = let told = accepted-text text c read in contentsO
 pub accepted-counts : (text : List ℕ) (c : Contents) → reading text ≡ accepted c → CountsWithin (c .agents) (c .items)
 accepted-counts text c read =
     let told = accepted-text text c read in
-    let agents = within-bounds mostAgents (c .agents) (told .agents-within) in
-    let items = within-bounds mostItems (c .items) (told .items-within) in
-    record { some = agents .0; few = agents .1; some-items = items .0; few-items = items .1 }
+    counts-within (c .agents) (c .items) (told .agents-within) (told .items-within)

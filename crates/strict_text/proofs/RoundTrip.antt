@@ -11,10 +11,10 @@ use lib.ListN.{length}
 use borrow.Author.Tests.{le-leb, lt-ltb}
 use Rattle.lists.specs.Lists.{all}
 use Rattle.lists.proofs.members.Each.{AllOfLength}
-use Rattle.sheet.specs.Limits.{mostAgents, mostItems, greatestMark, markDigits, markLimits, longestText, within, agentsAllowed, itemsAllowed}
+use Rattle.sheet.specs.Limits.{mostAgents, mostItems, greatestMark, markDigits, markLimits, longestText, CountsWithin}
 use Rattle.sheet.specs.Answers.{accepted}
 use Rattle.sheet.specs.Contents.{Contents}
-use Rattle.sheet.proofs.Limits.{within-bounds}
+use Rattle.sheet.proofs.Limits.{counts-allowed}
 use Rattle.tokens.specs.Tokens.{Token, tokens}
 use Rattle.lexing.specs.Forms.{form}
 use Rattle.lexing.proofs.readers.Written.{follow-append}
@@ -23,7 +23,7 @@ use Rattle.sheet_lines.specs.Grammar.{head, Body}
 use Rattle.sheet_lines.specs.Marks.{allowedRow}
 use Rattle.sheet_lines.specs.Kept.{tableOf}
 use Rattle.reading.specs.Reading.{reading}
-use Rattle.reading.proofs.Accepted.{AcceptedText, carried-contentsOf, passes-sheet, accepted-injective, accepted-text, accepted-carried}
+use Rattle.reading.proofs.Accepted.{AcceptedText, carried-contentsOf, passes-sheet, accepted-injective, accepted-text, accepted-carried, accepted-counts}
 use Rattle.strict_text.specs.StrictText.{headText, sheetText, linesOf, strictText}
 use Rattle.strict_text.specs.WithinLimits.{WithinLimits}
 use Rattle.strict_text.proofs.SheetTokens.{headTokens, bodyTokens, sheetTokens}
@@ -31,7 +31,7 @@ use Rattle.strict_text.proofs.SheetLexed.{tokens-sheetText}
 use Rattle.strict_text.proofs.Readers.{head-inverse, body-inverse, lastLine-inverse}
 use Rattle.strict_text.proofs.TokensRead.{head-headTokens, body-bodyTokens}
 use Rattle.strict_text.proofs.InUse.{inUse-tableOf, inUse-rows, inUse-places, lines-carried, blankedBeyond}
-use Rattle.strict_text.proofs.WithinLimits.{agents-bounds, items-bounds, rows-in-use, marks-in-use}
+use Rattle.strict_text.proofs.WithinLimits.{rows-in-use, marks-in-use}
 use Rattle.strict_text.proofs.TextLength.{length-strictText}
 
 sheetText-nonempty : (agents items : ℕ) (lines : Body) → 0 < length (sheetText agents items lines)
@@ -49,8 +49,8 @@ module _ (c : Contents) where
         → tokens text ≡ sheetTokens (c .agents) (c .items) (linesOf c) ++ behind → AcceptedText markLimits text c behind
     unfolding sheetTokens
     sheetTokens-accepted text behind some-byte short same =
-        let few-agents = agents-bounds w .1 in
-        let few-items = items-bounds w .1 in
+        let few-agents = w .counts .few in
+        let few-items = w .counts .few-items in
         let last = form lastLine ++ behind in
         record {
           short = le-leb (length text) longestText short;
@@ -59,8 +59,8 @@ module _ (c : Contents) where
           head-is =
               ap head (same ∙ append-assoc (headTokens (c .agents) (c .items)) _ behind ∙ ap (λ ts. headTokens (c .agents) (c .items) ++ ts) (append-assoc (bodyTokens (linesOf c)) (form lastLine) behind))
               ∙ head-headTokens (c .agents) (c .items) (bodyTokens (linesOf c) ++ last) (omega arith) (omega arith);
-          agents-within = w .agents-within;
-          items-within = w .items-within;
+          agents-within = counts-allowed (c .agents) (c .items) (w .counts) .0;
+          items-within = counts-allowed (c .agents) (c .items) (w .counts) .1;
           lines = linesOf c;
           last = last;
           lines-are = body-bodyTokens (c .agents) (c .items) (linesOf c) last (omega arith) (rows-in-use w) (marks-in-use w) (w .marks-allowed);
@@ -98,8 +98,7 @@ module _ (c : Contents) where
         let a = accepted-text text c e in
         let told = accepted-carried text c e in
         record {
-          agents-within = a .agents-within;
-          items-within = a .items-within;
+          counts = accepted-counts text c e;
           blank-beyond = told .table-is ∙ ap (λ lines. tableOf (lines .rows)) (sym lines-accepted);
           marks-allowed = ap (λ lines. all (allowedRow greatestMark) (lines .rows)) lines-accepted ∙ told .marks-allowed;
         }
@@ -115,15 +114,15 @@ strictText-same-iff s t c d e f =
     (λ same. accepted-injective c d (sym back-c ∙ ap reading same ∙ back-d), ap strictText)
 
 -- whatever stands in the places that are not in use, the strict text is read to the marks in use
-pub strictText-read-inUse : (c : Contents) → agentsAllowed (c .agents) ≡ true → itemsAllowed (c .items) ≡ true
+pub strictText-read-inUse : (c : Contents) → CountsWithin (c .agents) (c .items)
     → length (c .table) ≡ mostAgents → AllOfLength mostItems (c .table) → all (allowedRow greatestMark) (linesOf c .rows) ≡ true
     → reading (strictText c) ≡ accepted (blankedBeyond c)
 unfolding strictText
-strictText-read-inUse c y p n l f =
-    let few-agents = within-bounds mostAgents (c .agents) y .1 in
-    let few-items = within-bounds mostItems (c .items) p .1 in
+strictText-read-inUse c counts n l f =
+    let few-agents = counts .few in
+    let few-items = counts .few-items in
     let rows = linesOf c .rows in
     let used = inUse-tableOf (c .agents) (c .items) rows (inUse-rows (c .agents) (c .items) (c .table) (omega arith)) (inUse-places (c .agents) (c .items) (c .table) mostItems few-items l) in
     let within-limits : WithinLimits (blankedBeyond c)
-    = record { agents-within = y; items-within = p; blank-beyond = ap tableOf (sym used); marks-allowed = ap (all (allowedRow greatestMark)) used ∙ f } in
+    = record { counts = counts; blank-beyond = ap tableOf (sym used); marks-allowed = ap (all (allowedRow greatestMark)) used ∙ f } in
     ap (λ rows. reading (sheetText (c .agents) (c .items) (record { rows = rows }))) (sym used) ∙ strictText-read (blankedBeyond c) within-limits

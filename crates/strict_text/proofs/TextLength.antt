@@ -15,7 +15,7 @@ use Rattle.sheet.specs.Contents.{Contents}
 use Rattle.sheet_lines.specs.Marks.{allowed, allowedRow}
 use Rattle.strict_text.specs.StrictText.{headText, yardText, yardTexts, inUse, bodyText, sheetText, strictText, longestHead, longestYard, longestStrict}
 use Rattle.strict_text.specs.WithinLimits.{WithinLimits}
-use Rattle.strict_text.proofs.WithinLimits.{agents-bounds, items-bounds, rows-in-use, marks-in-use}
+use Rattle.strict_text.proofs.WithinLimits.{rows-in-use, marks-in-use}
 
 mark-length : (n : ℕ) → n ≤ greatestMark → length (decimal n) ≤ markDigits
 mark-length n h = decimal-length n markDigits (omega arith) (omega arith)
@@ -61,8 +61,8 @@ small-rows items (row ∷ rows) p l f =
 pub length-strictText : {c : Contents} → WithinLimits c → length (strictText c) ≤ longestStrict
 unfolding strictText sheetText bodyText
 length-strictText {c} w =
-    let few = agents-bounds w .1 in
-    let few-items = items-bounds w .1 in
+    let few = w .counts .few in
+    let few-items = w .counts .few-items in
     let rows = inUse (c .agents) (c .items) (c .table) in
     let small = small-rows (c .items) rows few-items (marks-in-use w) (w .marks-allowed) in
     let lines = yards-length 1 rows (omega (arith, rows-in-use w)) small in

@@ -1,32 +1,24 @@
--- What a table within the limits has: counts in their bounds, six rows of twelve places, and in use a row a yard with a mark a piece.
+-- What a table within the limits has: six rows of twelve places, and in use a row a yard with a mark a piece.
 -- Assumes nothing.
 use mathlib.Core.Path.{_≡_, sym, ap, _∙_, subst}
-use Prim.Native.Nat.{_≤_}
 use native.Mathlib.Omega.{arith}
 use lib.ListN.{length}
 use Rattle.lists.proofs.members.Each.{AllOfLength}
 use Rattle.sheet.specs.Limits.{mostAgents, mostItems}
 use Rattle.sheet.specs.Contents.{Contents}
-use Rattle.sheet.proofs.Limits.{within-bounds}
 use Rattle.strict_text.specs.StrictText.{inUse}
 use Rattle.strict_text.specs.WithinLimits.{WithinLimits}
 use Rattle.strict_text.proofs.InUse.{inUse-rows, inUse-places, tableOf-rows, tableOf-places}
 
 module _ {c : Contents} (w : WithinLimits c) where
-  pub agents-bounds : (1 ≤ c .agents) × (c .agents ≤ mostAgents)
-  agents-bounds = within-bounds mostAgents (c .agents) (w .agents-within)
-
-  pub items-bounds : (1 ≤ c .items) × (c .items ≤ mostItems)
-  items-bounds = within-bounds mostItems (c .items) (w .items-within)
-
   pub table-rows : length (c .table) ≡ mostAgents
-  table-rows = ap length (w .blank-beyond) ∙ tableOf-rows (c .agents) (c .items) (c .table) (agents-bounds .1)
+  table-rows = ap length (w .blank-beyond) ∙ tableOf-rows (c .agents) (c .items) (c .table) (w .counts .few)
 
   pub table-places : AllOfLength mostItems (c .table)
-  table-places = subst (AllOfLength mostItems) (sym (w .blank-beyond)) (tableOf-places (c .agents) (c .items) (c .table) (items-bounds .1))
+  table-places = subst (AllOfLength mostItems) (sym (w .blank-beyond)) (tableOf-places (c .agents) (c .items) (c .table) (w .counts .few-items))
 
   pub rows-in-use : length (inUse (c .agents) (c .items) (c .table)) ≡ c .agents
-  rows-in-use = inUse-rows (c .agents) (c .items) (c .table) (omega (arith, table-rows, agents-bounds .1))
+  rows-in-use = inUse-rows (c .agents) (c .items) (c .table) (omega (arith, table-rows, w .counts .few))
 
   pub marks-in-use : AllOfLength (c .items) (inUse (c .agents) (c .items) (c .table))
-  marks-in-use = inUse-places (c .agents) (c .items) (c .table) mostItems (items-bounds .1) table-places
+  marks-in-use = inUse-places (c .agents) (c .items) (c .table) mostItems (w .counts .few-items) table-places

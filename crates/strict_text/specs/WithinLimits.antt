@@ -2,7 +2,7 @@
 use mathlib.Core.Path.{_≡_}
 use mathlib.Core.Bool.{true}
 use Rattle.lists.specs.Lists.{all}
-use Rattle.sheet.specs.Limits.{greatestMark, agentsAllowed, itemsAllowed}
+use Rattle.sheet.specs.Limits.{greatestMark, CountsWithin}
 use Rattle.sheet.specs.Contents.{Contents}
 use Rattle.sheet_lines.specs.Marks.{allowedRow}
 use Rattle.sheet_lines.specs.Kept.{tableOf}
@@ -10,8 +10,7 @@ use Rattle.strict_text.specs.StrictText.{inUse}
 
 pub record WithinLimits (c : Contents) : Type 0 where
   -- "1 to 6 yards and 1 to 12 pieces"
-  pub agents-within : agentsAllowed (c .agents) ≡ true
-  pub items-within : itemsAllowed (c .items) ≡ true
+  pub counts : CountsWithin (c .agents) (c .items)
   -- "six rows of twelve places", blank beyond the yards and pieces in use
   pub blank-beyond : c .table ≡ tableOf (inUse (c .agents) (c .items) (c .table))
   -- "A mark is a whole number from 0 to" the greatest
