@@ -1,11 +1,11 @@
 -- What the outcome of reading says of an answer that follows reading. Assumes nothing.
-use mathlib.Core.Path.{_≡_, refl, sym, ap, _∙_, subst}
+use mathlib.Core.Path.{_≡_, sym, ap, ap₂, _∙_}
 use mathlib.Core.List.{List}
 use Prim.Native.Nat.{ℕ}
 use native.Mathlib.Omega.{arith}
 use Rattle.sheet.specs.Answers.{Answer, refused, accepted, andThen}
 use Rattle.sheet.specs.declared.Sheet.{Sheet}
-use Rattle.sheet.specs.Contents.{Contents}
+use Rattle.sheet.specs.Contents.{Contents, contents}
 use Rattle.reading.specs.Reading.{reading}
 use Rattle.reading.specs.Outcome.{outcome, tableIn}
 use Rattle.reading.specs.declared.Answer.the-variants.{Refused, Accepted}
@@ -32,21 +32,24 @@ accepted-has-table sheet {counts} e =
     let same : record { agents = sheet .agents; items = sheet .items } ≡ counts = cc in
     record { agents-are = ap (λ c. c .agents) same; items-are = ap (λ c. c .items) same; table-is = sym (tableIn-accepted sheet) }
 
--- an accepted text carries a sheet with the counts and the table that were read
+-- the sheet of an outcome is what its answer and its rows carry
+pub accepted-contents : (sheet : Contents) {counts : Sheet} → outcome (accepted sheet) .answer ≡ Accepted counts → sheet ≡ contents counts (tableIn (outcome (accepted sheet) .rows))
+accepted-contents sheet {counts} e =
+    let same : record { agents = sheet .agents; items = sheet .items } ≡ counts = cc in
+    ap₂ contents same (sym (tableIn-accepted sheet))
+
+sheet-outcome : (r : Answer Contents) {counts : Sheet} → outcome r .answer ≡ Accepted counts → r ≡ accepted (contents counts (tableIn (outcome r .rows)))
+sheet-outcome (refused n) e = let z : _≡_ {A = ℕ} 0 1 = cc in absurd (omega arith)
+sheet-outcome (accepted sheet) e = ap accepted (accepted-contents sheet e)
+
+-- an accepted text carries the counts and the table that were read
 module _ (text : List ℕ) {found : Outcome} (read : found ≡ outcome (reading text)) where
-  sheet-outcome : (r : Answer Contents) {counts : Sheet} → outcome r .answer ≡ Accepted counts → (sheet : Contents) × (r ≡ accepted sheet) × HasTable counts (tableIn (outcome r .rows)) sheet
-  sheet-outcome (refused n) e = let z : _≡_ {A = ℕ} 0 1 = cc in absurd (omega arith)
-  sheet-outcome (accepted sheet) e = (sheet, refl, accepted-has-table sheet e)
-
-  pub sheet-read : {counts : Sheet} {table : List (List ℕ)} → found .answer ≡ Accepted counts → table ≡ tableIn (found .rows)
-      → (sheet : Contents) × (reading text ≡ accepted sheet) × HasTable counts table sheet
+  pub sheet-read : {counts : Sheet} {table : List (List ℕ)} → found .answer ≡ Accepted counts → table ≡ tableIn (found .rows) → reading text ≡ accepted (contents counts table)
   sheet-read {counts} e rows =
-      let told = sheet-outcome (reading text) (sym (ap (λ o. o .answer) read) ∙ e) in
-      (told .0, told .1, subst (λ t. HasTable counts t (told .0)) (sym (rows ∙ ap (λ o. tableIn (o .rows)) read)) (told .2))
+      sheet-outcome (reading text) (sym (ap (λ o. o .answer) read) ∙ e)
+      ∙ ap (λ t. accepted (contents counts t)) (sym (rows ∙ ap (λ o. tableIn (o .rows)) read))
 
-  -- an answer that follows from the counts and the table alone
-  pub accepted-read : {B : Type 0} (next : ℕ → ℕ → List (List ℕ) → Answer B) {counts : Sheet} {table : List (List ℕ)} → found .answer ≡ Accepted counts
-      → table ≡ tableIn (found .rows) → next (counts .agents) (counts .items) table ≡ andThen (reading text) (λ sheet. next (sheet .agents) (sheet .items) (sheet .table))
-  accepted-read next {counts} {table} e rows =
-      let told = sheet-read e rows in
-      rw (told .1, told .2 .agents-are, told .2 .items-are, told .2 .table-is)
+  -- an answer that follows from what the text carries
+  pub accepted-read : {B : Type 0} (next : Contents → Answer B) {counts : Sheet} {table : List (List ℕ)} → found .answer ≡ Accepted counts
+      → table ≡ tableIn (found .rows) → next (contents counts table) ≡ andThen (reading text) next
+  accepted-read next e rows = sym (ap (λ r. andThen r next) (sheet-read e rows))

@@ -20,7 +20,7 @@ pub fn write_strict(text: &[u8], buffer: &mut [u8]) -> Answer
         reading::Answer::Accepted(sheet) => {
             let rows = found.rows;
             let table = reading::table(rows);
-            strict_writing::write_sheet(table, sheet.agents, sheet.items, buffer)
+            strict_writing::write_sheet(table, sheet, buffer)
         }
     }
 }

@@ -2,6 +2,7 @@
 ghost use mathlib.Core.Path.{_≡_};
 ghost use lib.ListN.{length};
 ghost use Rattle.sheet.specs.Answers.{after};
+ghost use Rattle.sheet.specs.Contents.{contents};
 ghost use Rattle.writing.specs.Answered.{answered};
 ghost use Rattle.writing.specs.Filled.{filling, filled};
 ghost use Rattle.strict_text.specs.StrictText.{strictText};
@@ -21,24 +22,24 @@ pub const LONGEST: usize = 30 + LONGEST_LINES;
 // One of so many is long enough whatever the counts, which have up to 20 digits each.
 const LONGEST_OF_ANY: usize = 27 + 2 * 20 + LONGEST_LINES;
 
-// How long the strict text of a table with these counts is: it is written once where every text has room.
-fn sheet_length(table: Table, agents: usize, items: usize) -> usize
-    ensures { λ r. ⌜ r ≡ length (strictText (record { agents = agents; items = items; table = table })) ⌝ }
+// How long the strict text of a sheet is: it is written once where every text has room.
+fn sheet_length(table: Table, sheet: Sheet) -> usize
+    ensures { λ r. ⌜ r ≡ length (strictText (contents sheet table)) ⌝ }
 {
     let mut place = [0u8; LONGEST_OF_ANY];
-    put_sheet(&mut place, 0, table, agents, items)
+    put_sheet(&mut place, 0, table, sheet)
 }
 
-// Writes the strict text of a table with these counts from the front of the buffer; refused with 10 where the buffer is shorter than the
+// Writes the strict text of a sheet from the front of the buffer; refused with 10 where the buffer is shorter than the
 // text, and then the buffer keeps all its bytes.
-pub fn write_sheet(table: Table, agents: usize, items: usize, buffer: &mut [u8]) -> Answer
-    ensures answer { λ r. ⌜ r ≡ answered (filling (length (now (buffer .entry))) (strictText (record { agents = agents; items = items; table = table }))) ⌝ }
-    ensures buffer { λ _. ⌜ now (buffer .exit) ≡ after filled (filling (length (now (buffer .entry))) (strictText (record { agents = agents; items = items; table = table }))) (now (buffer .entry)) ⌝ }
+pub fn write_sheet(table: Table, sheet: Sheet, buffer: &mut [u8]) -> Answer
+    ensures answer { λ r. ⌜ r ≡ answered (filling (length (now (buffer .entry))) (strictText (contents sheet table))) ⌝ }
+    ensures buffer { λ _. ⌜ now (buffer .exit) ≡ after filled (filling (length (now (buffer .entry))) (strictText (contents sheet table))) (now (buffer .entry)) ⌝ }
 {
-    let length = sheet_length(table, agents, items);
+    let length = sheet_length(table, sheet);
     if buffer.len() < length {
         return Answer::Refused(10);
     }
-    put_sheet(buffer, 0, table, agents, items);
+    put_sheet(buffer, 0, table, sheet);
     Answer::Written(length)
 }

@@ -1,5 +1,6 @@
 // The lines of a strict text, one behind the other, token by token. Each function returns the place of the byte that comes next.
 ghost use lib.ListN.{take};
+ghost use Rattle.sheet.specs.Contents.{contents};
 ghost use Rattle.text.specs.Decimal.{spacedNumber, spacedNumbers};
 ghost use Rattle.writing.specs.Output.{output, Written};
 ghost use Rattle.strict_text.specs.StrictText.{headText, yardText, yardTexts, inUse, strictText};
@@ -76,10 +77,12 @@ fn put_yards(buffer: &mut [u8], at: usize, table: Table, agents: usize, items: u
     next
 }
 
-// The whole strict text of a table with these counts.
-pub fn put_sheet(buffer: &mut [u8], at: usize, table: Table, agents: usize, items: usize) -> usize
-    ensures { λ r. ⌜ Written (output (now (buffer .entry)) at) (strictText (record { agents = agents; items = items; table = table })) (output (now (buffer .exit)) r) ⌝ }
+// The whole strict text of a sheet.
+pub fn put_sheet(buffer: &mut [u8], at: usize, table: Table, sheet: Sheet) -> usize
+    ensures { λ r. ⌜ Written (output (now (buffer .entry)) at) (strictText (contents sheet table)) (output (now (buffer .exit)) r) ⌝ }
 {
+    let agents = sheet.agents;
+    let items = sheet.items;
     let headed = put_head(buffer, at, agents, items);
     let lined = put_yards(buffer, headed, table, agents, items);
     write_word(buffer, lined, &LAST_LINE)

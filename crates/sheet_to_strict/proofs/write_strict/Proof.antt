@@ -4,7 +4,7 @@ use mathlib.Core.List.{List}
 use Prim.Native.Nat.{ℕ}
 use lib.ListN.{length}
 use Rattle.sheet.specs.Answers.{Answer, after}
-use Rattle.sheet.specs.Contents.{Contents}
+use Rattle.sheet.specs.Contents.{Contents, contents}
 use Rattle.writing.specs.Filled.{filling, filled}
 use Rattle.reading.proofs.Composed.{refused-read, accepted-read}
 use Rattle.strict_text.specs.StrictText.{strictText}
@@ -54,8 +54,8 @@ returns-2 c =
     let a = at-read .before .before .before .args in
     let counts = at-answer .answer2 .given .0 .0 in
     let room = length (a .buffer .now) in
-    let same = accepted-read (a .text .now) (at-read .read .ensures) (λ agents items table. writingOf room (record { agents = agents; items = items; table = table })) (at-answer .answer2 .given .1) (at-table .table .ensures) in
-    let told : at-write .write-sheet .result ≡ answered (writingOf room (record { agents = counts .agents; items = counts .items; table = at-table .table .result })) = at-write .write-sheet .ensures .0 in
+    let same = accepted-read (a .text .now) (at-read .read .ensures) (writingOf room) (at-answer .answer2 .given .1) (at-table .table .ensures) in
+    let told : at-write .write-sheet .result ≡ answered (writingOf room (contents counts (at-table .table .result))) = at-write .write-sheet .ensures .0 in
     (told ∙ ap answered same, at-write .write-sheet .ensures .1 ∙ ap (λ p. after filled p (a .buffer .now)) same)
 
 pub write-strict-spec : {M : Type 1} → statement M

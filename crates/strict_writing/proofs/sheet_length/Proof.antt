@@ -1,5 +1,6 @@
 -- `sheet_length` meets its contract: the text finds room, so the place behind it is its length. Assumes nothing.
 use native.Mathlib.Omega.{arith}
+use Rattle.sheet.specs.Contents.{contents}
 use Rattle.writing.proofs.Filled.{written-whole}
 use Rattle.strict_writing.proofs.Longest.{length-of-any}
 use borrow.Author.Needs.{needs}
@@ -16,7 +17,7 @@ returns : tie.Need-returns
 returns c =
     let s = c .before .before .before in
     let a = s .args in
-    let short = length-of-any (record { agents = a .agents; items = a .items; table = a .table }) _ (omega arith) (omega arith) (s .good .0) in
+    let short = length-of-any (contents (a .sheet) (a .table)) _ (omega arith) (omega arith) (s .good .0) in
     written-whole (c .before .put-sheet .ensures) short .reached
 
 pub sheet-length-spec : {M : Type 1} → statement M

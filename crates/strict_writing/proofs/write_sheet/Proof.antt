@@ -5,6 +5,7 @@ use Prim.Native.Nat.{ℕ, _≤_}
 use native.Mathlib.Omega.{arith}
 use lib.ListN.{length}
 use borrow.Author.Tests.{lt-leb, le-leb}
+use Rattle.sheet.specs.Contents.{contents}
 use Rattle.writing.proofs.Filled.{written-whole}
 use Rattle.strict_text.specs.StrictText.{strictText}
 use Rattle.writing.specs.declared.Answer.the-variants.{Written}
@@ -14,7 +15,7 @@ use Rattle.strict_writing.proofs.write_sheet.Tie as tie
 
 -- the strict text of the table
 abbrev textOf : tie.Start → List ℕ
-textOf s = let a = s .args in strictText (record { agents = a .agents; items = a .items; table = a .table })
+textOf s = let a = s .args in strictText (contents (a .sheet) (a .table))
 
 sheet-length-requires : tie.Need-sheet-length-requires
 sheet-length-requires c κs = search needs
