@@ -8,6 +8,7 @@ ghost use Rattle.sheet.specs.Limits.{mostAgents, mostItems, greatestSum};
 ghost use Rattle.sheet.specs.Sets.{itemsOf};
 ghost use Rattle.sheet.specs.Valuations.{value};
 ghost use Rattle.sheet.specs.Tables.{allValues, profile};
+ghost use Rattle.sheet.specs.Amounts.{SmallAmounts};
 ghost use Rattle.grade_amounts.specs.Compared.{compared};
 use sheet::Row;
 use sheet::Sets;
@@ -58,7 +59,7 @@ fn greatest_in_use(valuation: Row, agents: usize, items: usize, bundles: Sets) -
 // What the grade goes by, for each of as many agents as a sheet may have.
 fn compare_within(table: Table, agents: usize, items: usize, bundles: Sets) -> Compared
     requires { ⌜ agents ≤ mostAgents ⌝ }
-    ensures { λ r. ⌜ r ≡ compared agents (profile agents (min items mostItems) table) (map itemsOf bundles) ⌝ }
+    ensures { λ r. ⌜ (r ≡ compared agents (profile agents (min items mostItems) table) (map itemsOf bundles)) × SmallAmounts (r .own) ⌝ }
 {
     let all = all_items(items);
     let mut own = [0u64; Sheet::AGENTS];
@@ -86,7 +87,7 @@ fn compare_within(table: Table, agents: usize, items: usize, bundles: Sets) -> C
 
 // What the grade goes by, for each agent; both counts are cut to the limits of a sheet.
 pub fn compare(table: Table, agents: usize, items: usize, bundles: Sets) -> Compared
-    ensures { λ r. ⌜ r ≡ compared (min agents mostAgents) (profile (min agents mostAgents) (min items mostItems) table) (map itemsOf bundles) ⌝ }
+    ensures { λ r. ⌜ (r ≡ compared (min agents mostAgents) (profile (min agents mostAgents) (min items mostItems) table) (map itemsOf bundles)) × SmallAmounts (r .own) ⌝ }
 {
     compare_within(table, lesser(agents, Sheet::AGENTS), items, bundles)
 }

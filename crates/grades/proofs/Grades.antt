@@ -1,18 +1,15 @@
 -- A grade is one of 1 to 5. It goes by the shares and the margins of the agents in use and by what they think of their bundles, and by nothing else. Assumes nothing.
-use mathlib.Core.Path.{_≡_, ap, ap₂}
+use mathlib.Core.Path.{_≡_, ap}
 use mathlib.Core.Bool.{Bool, true, false, cond}
-use mathlib.Core.List.{List, [], map, List·Memᴰ as Mem}
+use mathlib.Core.List.{List, [], List·Memᴰ as Mem}
 use Prim.Native.Nat.{ℕ, _≤_}
 use native.Mathlib.Omega.{arith}
 use lib.IntN.{ℤ, pos}
 use lib.Signed.{nonNeg}
 use Rattle.lists.specs.Lists.{range, nth}
 use Rattle.lists.proofs.members.Tests.{all-cong}
-use Rattle.sheet.specs.Limits.{InUse}
-use Rattle.sheet.specs.Sets.{itemsOf}
-use Rattle.sheet.specs.Tables.{profile}
 use Rattle.margins.specs.Margins.{noneNegative}
-use Rattle.grades.specs.Grade.{envyFree, proportional, maximinFair, grade, gradeIn}
+use Rattle.grades.specs.Grade.{envyFree, proportional, maximinFair, grade}
 
 -- the number of the first of four tests that passes, or 5
 abbrev pub first : Bool → Bool → Bool → Bool → ℕ
@@ -55,10 +52,3 @@ module _ (n : ℕ) (rows : List (List ℕ)) (shares shares′ : List ℕ) (margi
   pub grade-cong : grade n rows shares margins bundles ≡ grade n rows shares′ margins′ bundles′
   unfolding grade
   grade-cong = rw (envyFree-cong, proportional-cong, maximinFair-cong, noneNegative-cong)
-
--- within the limits the counts are those given
-pub gradeIn-within : (n m : ℕ) (table : List (List ℕ)) (shares : List ℕ) (margins : List ℤ) (sets : List ℕ) → InUse n m
-    → gradeIn n m table shares margins sets ≡ grade n (profile n m table) shares margins (map itemsOf sets)
-unfolding gradeIn
-gradeIn-within n m table shares margins sets in-use =
-    ap₂ (λ n m. grade n (profile n m table) shares margins (map itemsOf sets)) (omega arith) (omega arith)

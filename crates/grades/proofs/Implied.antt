@@ -19,11 +19,12 @@ use Rattle.sheet.specs.Tables.{valuation, allValues, profile}
 use Rattle.sheet.specs.Allocations.{Allocates}
 use Rattle.sheet.proofs.valuing.Tables.{valuation-profile}
 use Rattle.maximin.proofs.Laws.{shares-le-total}
+use Rattle.sheet.specs.Contents.{sheetOf}
+use Rattle.shares.specs.Shares.{sharesOf}
 use Rattle.shares.proofs.Profile.{nth-shares}
 use Rattle.terms.specs.declared.Terms.{Terms}
 use Rattle.margins.specs.Margins.{marginsOf, noneNegative}
 use Rattle.grades.specs.Grade.{ownValues, valueTo, envyFree, proportional, maximinFair}
-use Rattle.grades.specs.Scale.{sharesOf}
 use Rattle.grades.proofs.NoneNegative.{noneNegative-own}
 
 module _ (n m : ℕ) (table bundles : List (List ℕ)) where
@@ -61,14 +62,14 @@ module _ (n m : ℕ) (table bundles : List (List ℕ)) where
         even i mi = omega (arith, total-le-bundles i mi, sumOver-le (seen i) 1 (seen i i) (range 1 n) (most i mi), ap (λ k. k * seen i i) (length-range 1 n))
 
   -- n times the share is at most the total, and so at most n times the value of the bundle; whatever the bundles are
-  pub proportional-maximinFair : proportional n rows bundles ≡ true → maximinFair n rows (sharesOf n m table) bundles ≡ true
+  pub proportional-maximinFair : proportional n rows bundles ≡ true → maximinFair n rows (sharesOf (sheetOf n m table)) bundles ≡ true
   unfolding proportional maximinFair
   proportional-maximinFair even = mem-all _ (range 1 n) (λ i mi. le-leb _ _ (whole i mi))
     where
-      whole : (i : ℕ) → Mem i (range 1 n) → nth 0 (sharesOf n m table) i ≤ seen i i
+      whole : (i : ℕ) → Mem i (range 1 n) → nth 0 (sharesOf (sheetOf n m table)) i ≤ seen i i
       whole i mi =
           let some : 1 ≤ n = omega (arith, range-bounds 1 n mi) in
-          let multiples : n * nth 0 (sharesOf n m table) i ≤ n * seen i i = omega (
+          let multiples : n * nth 0 (sharesOf (sheetOf n m table)) i ≤ n * seen i i = omega (
             arith,
             ap (λ x. n * x) (nth-shares n m table mi),
             shares-le-total n (allValues m (valuation table i)) some,

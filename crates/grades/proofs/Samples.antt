@@ -3,6 +3,7 @@ use mathlib.Core.Path.{_≡_, refl}
 use mathlib.Core.List.{List, [], _∷_, map}
 use Prim.Native.Nat.{ℕ}
 use Rattle.sheet.specs.Tables.{profile}
+use Rattle.sheet.specs.Contents.{sheetOf}
 use Rattle.maximin.specs.Share.{maximinShare}
 use Rattle.terms.specs.Terms.{largestOdd, termsFor}
 use Rattle.margins.specs.Margins.{margin}
@@ -62,6 +63,6 @@ samples =
     }
     ∷ []
 
-pub samples-graded : map (λ s. gradeByTable 3 (s .items) (s .rows) (s .bundles)) samples ≡ map (λ s. s .grade) samples
+pub samples-graded : map (λ s. gradeByTable (sheetOf 3 (s .items) (s .rows)) (s .bundles)) samples ≡ map (λ s. s .grade) samples
 unfolding samples grade envyFree proportional maximinFair profile maximinShare termsFor largestOdd margin
 samples-graded = refl

@@ -2,15 +2,13 @@
 -- Assumes nothing: these are definitions.
 use mathlib.Core.Bool.{Bool, cond}
 use mathlib.Core.List.{List, [], map}
-use Prim.Native.Nat.{ℕ, _*_, min}
+use Prim.Native.Nat.{ℕ, _*_}
 use lib.Dec.{leb}
 use lib.IntN.{ℤ}
-use Rattle.lists.specs.Lists.{range, nth, all, padded}
+use Rattle.lists.specs.Lists.{range, nth, all}
 use Rattle.lists.specs.Sums.{total}
-use Rattle.sheet.specs.Limits.{mostAgents, mostItems}
-use Rattle.sheet.specs.Sets.{itemsOf}
 use Rattle.sheet.specs.Valuations.{value}
-use Rattle.sheet.specs.Tables.{valuation, profile}
+use Rattle.sheet.specs.Tables.{valuation}
 use Rattle.margins.specs.Margins.{noneNegative}
 
 -- what agent i's valuation says of agent j's bundle
@@ -41,14 +39,3 @@ grade n valuations shares margins bundles =
     (cond (proportional n valuations bundles) 2
     (cond (maximinFair n valuations shares bundles) 3
     (cond (noneNegative n margins) 4 5)))
-
--- the worths of any allocation of a table in six places, by the places in use: counts above the limits are cut to them, and items above those in
--- use are worth nothing; the bundles are 16-bit sets
-unfoldable pub worthsIn : ℕ → ℕ → List (List ℕ) → List ℕ → List ℕ
-worthsIn agents items table sets =
-    padded mostAgents 0 (ownValues (min agents mostAgents) (profile (min agents mostAgents) (min items mostItems) table) (map itemsOf sets))
-
--- the grade of any allocation of a table, by the places in use in the same way
-unfoldable pub gradeIn : ℕ → ℕ → List (List ℕ) → List ℕ → List ℤ → List ℕ → ℕ
-gradeIn agents items table shares margins sets =
-    grade (min agents mostAgents) (profile (min agents mostAgents) (min items mostItems) table) shares margins (map itemsOf sets)

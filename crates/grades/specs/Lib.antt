@@ -1,3 +1,4 @@
--- The grade of an allocation (document 01, "Grades"), and its tests one after the other.
+-- The grade of an allocation (document 01, "Grades"), what an allocation comes to, and the tests of the grades one after the other.
 pub mod Grade
+pub mod Assessment
 pub mod Scale

@@ -10,11 +10,13 @@ use Rattle.lists.specs.Lists.{range, nth, padded}
 use Rattle.lists.specs.Sums.{total, greatestOf}
 use Rattle.lists.proofs.ranges.Ranges.{in-range}
 use Rattle.lists.proofs.places.Padding.{padded-range}
-use Rattle.lists.proofs.places.Places.{nth-next}
-use Rattle.sheet.specs.Limits.{mostAgents, mostItems}
+use Rattle.lists.proofs.places.Zeros.{getD-zeros}
+use Rattle.lists.proofs.places.Places.{nth-next, store-small}
+use Rattle.sheet.specs.Limits.{mostAgents, mostItems, greatestSum}
 use Rattle.sheet.specs.Sets.{itemsOf}
 use Rattle.sheet.specs.Valuations.{value}
 use Rattle.sheet.specs.Tables.{valuation, allValues, profile}
+use Rattle.sheet.specs.Amounts.{SmallAmounts}
 use Rattle.sheet.proofs.valuing.Tables.{valuation-profile}
 use Rattle.sheet.proofs.sets.Bundles.{nth-items}
 use Rattle.sheet.proofs.sets.Remainders.{value-all}
@@ -31,6 +33,7 @@ Inv-loop agents items table bundles all own₀ greatest₀ multiples₀ totals�
     × (greatest ≡ padded mostAgents 0 (map (greatestValue agents valuations (map itemsOf bundles)) (range 1 i)))
     × (multiples ≡ padded mostAgents 0 (map (multipleOfOwn agents valuations (map itemsOf bundles)) (range 1 i)))
     × (totals ≡ padded mostAgents 0 (map (totalValue agents valuations (map itemsOf bundles)) (range 1 i)))
+    × SmallAmounts own
 
 abbrev μ-loop : tie.MeasureT-loop
 μ-loop agents items table bundles all own₀ greatest₀ multiples₀ totals₀ i₀ own greatest multiples totals i = agents - i
@@ -57,7 +60,7 @@ all-items-requires : tie.Need-all-items-requires Inv-loop μ-loop
 all-items-requires c κs = search needs
 
 loop-holds : tie.Need-loop-holds Inv-loop μ-loop
-loop-holds c = (omega arith, refl, refl, refl, refl)
+loop-holds c = (omega arith, refl, refl, refl, refl, λ i. omega (arith, getD-zeros mostAgents i))
 
 mul-row : tie.Need-mul-row Inv-loop μ-loop
 mul-row c = omega arith
@@ -141,6 +144,7 @@ loop-again c =
           ∙ padded-range mostAgents 0 (multipleOfOwn (a .agents) rows bundles) (l .i) (a .agents * own) (omega arith) (ap (λ v. a .agents * v) worth),
       ap (λ s. store s (l .i) (c .value-of .result)) (l .inv .4)
           ∙ padded-range mostAgents 0 (totalValue (a .agents) rows bundles) (l .i) (c .value-of .result) (omega arith) whole,
+      store-small greatestSum (l .own) (l .i) own (valued .value-in-use .ensures .1) (l .inv .5),
     )
 
 returns : tie.Need-returns Inv-loop μ-loop
@@ -149,7 +153,7 @@ returns c =
     let a = start (c .before) .args in
     let l = c .before .loop in
     let e : l .i ≡ a .agents = omega arith in
-    made (rw e at (l .inv .1)) (rw e at (l .inv .2)) (rw e at (l .inv .3)) (rw e at (l .inv .4))
+    (made (rw e at (l .inv .1)) (rw e at (l .inv .2)) (rw e at (l .inv .3)) (rw e at (l .inv .4)), l .inv .5)
   where
     made : {own own′ greatest greatest′ multiples multiples′ totals totals′ : List ℕ} → own ≡ own′ → greatest ≡ greatest′ → multiples ≡ multiples′ → totals ≡ totals′
         → _≡_ {A = Compared}
