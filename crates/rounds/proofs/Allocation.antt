@@ -15,6 +15,7 @@ use Rattle.lists.proofs.members.Counting.{sublist-mem, mem-all}
 use Rattle.lists.proofs.sums.InOneList.{in-one-list}
 use Rattle.sheet.specs.Valuations.{value}
 use Rattle.sheet.specs.Tables.{valuation, profile}
+use Rattle.sheet.specs.Contents.{sheetOf}
 use Rattle.sheet.specs.Allocations.{Allocates}
 use Rattle.sheet.proofs.valuing.Tables.{value-profile}
 use Rattle.shares.specs.Shares.{shareOf}
@@ -23,7 +24,7 @@ use Rattle.terms.specs.declared.Terms.{Terms}
 use Rattle.margins.specs.Margins.{noneNegative}
 use Rattle.grades.proofs.NoneNegative.{noneNegative-own}
 use Rattle.rounds.specs.Round.{Instance, suits, held}
-use Rattle.rounds.specs.Division.{instanceOf, allRounds, allocation, allocationMargins}
+use Rattle.rounds.specs.Division.{instanceOf, allRounds, allocation, allocationAssessment}
 use Rattle.terms.specs.Allowed.{AtMostStandard}
 use Rattle.rounds.proofs.round.Invariant.{Sound, left-all}
 use Rattle.rounds.proofs.round.Rounds.{held-sublist, held-suits, held-all}
@@ -58,12 +59,12 @@ module _ (n m : ℕ) (terms : Terms) (table : List (List ℕ)) where
         rw (nth-map-range holds [] n i) (held-suits sound n (range 1 n) (range 1 m) agents-enough (left-all n m G) agent i)
 
     -- "every margin to be zero or more"
-    pub allocation-noneNegative : noneNegative n (allocationMargins n m G) ≡ true
+    pub allocation-noneNegative : noneNegative n (allocationAssessment n m G .margins) ≡ true
     allocation-noneNegative = noneNegative-own n terms (profile n m table) (allocation n m G) (G .shares) ∙ mem-all _ (range 1 n) holds-suiting
 
     -- by the marks of the table each agent holds what it is promised
     pub holds-promised : (agent : ℕ) → Mem agent (range 1 n)
-        → leb (terms .top * shareOf n m table agent) (terms .bottom * value (valuation table agent) (nth [] (allocation n m G) agent)) ≡ true
+        → leb (terms .top * shareOf (sheetOf n m table) agent) (terms .bottom * value (valuation table agent) (nth [] (allocation n m G) agent)) ≡ true
     holds-promised agent i =
         let of-items : Sublist (nth [] (allocation n m G) agent) (range 1 m) = rw (nth-map-range holds [] n i) (held-sublist G n (range 1 n) (range 1 m) agent) in
         rw (← nth-shares n m table i, ← value-profile n m table i of-items) (holds-suiting agent i)

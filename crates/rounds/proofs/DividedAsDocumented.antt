@@ -9,6 +9,7 @@ use Rattle.lists.specs.Lists.{range, nth}
 use Rattle.lists.proofs.ranges.Ranges.{in-range, length-range, nth-map-range, nth-mem}
 use Rattle.sheet.specs.Answers.{accepted}
 use Rattle.sheet.specs.Tables.{valuation, allValues, profile}
+use Rattle.sheet.specs.Contents.{Contents, sheetOf}
 use Rattle.sheet.proofs.valuing.Tables.{length-profile}
 use Rattle.maximin.specs.Share.{maximinShare, maximinPartition}
 use Rattle.shares.proofs.Profile.{nth-shares, nth-cuts}
@@ -43,7 +44,7 @@ module _ (n m : ℕ) (terms : Terms) (table : List (List ℕ)) (allowed : AtMost
       nth-map-range (held (allRounds n m G)) [] n (served-among G n (range 1 n) (range 1 m) r mr (nth 0 (r .served) k) agent-served)
       ∙ held-at-place (sound n m terms table allowed) n (range 1 n) (range 1 m) (left-all n m G) r mr k lo hi
 
-  pub rounds-divide-as-documented : DividedAsDocumented n m terms table (divisionOf n m G)
+  pub rounds-divide-as-documented : DividedAsDocumented (sheetOf n m table) terms (divisionOf n m G)
   unfolding divisionOf
   rounds-divide-as-documented =
       record {
@@ -59,8 +60,8 @@ module _ (n m : ℕ) (terms : Terms) (table : List (List ℕ)) (allowed : AtMost
         bundles-of-rounds = bundle-at-place;
       }
 
--- demand 2, for every table: whatever is answered as a division is as document 01 says
-pub answer-as-documented : (n m : ℕ) (table : List (List ℕ)) (allowance : ℕ) (d : Division) → answer n m table allowance ≡ accepted d
-    → DividedAsDocumented n m (termsFor n) table d
-answer-as-documented n m table allowance d divided =
-    rw (answer-accepted n m table allowance d divided .0) (rounds-divide-as-documented n m (termsFor n) table (termsFor-at-most-standard n))
+-- demand 2, for every sheet: whatever is answered as a division is as document 01 says
+pub answer-as-documented : (sheet : Contents) (allowance : ℕ) (d : Division) → answer sheet allowance ≡ accepted d → DividedAsDocumented sheet (termsFor (sheet .agents)) d
+answer-as-documented sheet allowance d divided =
+    rw (answer-accepted sheet allowance d divided .0)
+    (rounds-divide-as-documented (sheet .agents) (sheet .items) (termsFor (sheet .agents)) (sheet .table) (termsFor-at-most-standard (sheet .agents)))

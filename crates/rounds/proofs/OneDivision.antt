@@ -13,6 +13,7 @@ use Rattle.lists.proofs.places.Places.{nth-next}
 use Rattle.lists.proofs.places.Entries.{mem-place, same-at-places}
 use Rattle.lists.proofs.members.Counting.{any-mem, counted-any}
 use Rattle.lists.proofs.members.Distinct.{elem-mem}
+use Rattle.sheet.specs.Contents.{Contents}
 use Rattle.terms.specs.declared.Terms.{Terms}
 use Rattle.rounds.specs.Round.{Instance, Round}
 use Rattle.rounds.specs.Division.{Division}
@@ -97,14 +98,14 @@ module _ {G : Instance} where
       ap₂ (λ x xs. x ∷ xs) same
       (one-list-of-rounds (r .waiting) (r .left) rs rs′ (f .2) (rw same (f′ .2)) (λ q m. each q (there m)) (λ q m. each′ q (there m)))
 
--- two divisions of a table by the same terms that are as documented
-module _ {n m : ℕ} {terms : Terms} {table : List (List ℕ)} {d d′ : Division} (a : DividedAsDocumented n m terms table d) (a′ : DividedAsDocumented n m terms table d′) where
+-- two divisions of a sheet by the same terms that are as documented
+module _ {sheet : Contents} {terms : Terms} {d d′ : Division} (a : DividedAsDocumented sheet terms d) (a′ : DividedAsDocumented sheet terms d′) where
   same-shares : d .shares ≡ d′ .shares
-  same-shares = same-at-places 0 n (d .shares) (d′ .shares) (a .share-each) (a′ .share-each) (λ i lo hi. one-share (a .share-and-cut i lo hi) (a′ .share-and-cut i lo hi))
+  same-shares = same-at-places 0 (sheet .agents) (d .shares) (d′ .shares) (a .share-each) (a′ .share-each) (λ i lo hi. one-share (a .share-and-cut i lo hi) (a′ .share-and-cut i lo hi))
 
   same-rounds : a .rounds ≡ a′ .rounds
   same-rounds =
-      one-list-of-rounds {G = instanceIn n m terms table d} _ _ (a .rounds) (a′ .rounds) (a .rounds-follow-on) (a′ .rounds-follow-on) (a .rounds-as-documented)
+      one-list-of-rounds {G = instanceIn sheet terms d} _ _ (a .rounds) (a′ .rounds) (a .rounds-follow-on) (a′ .rounds-follow-on) (a .rounds-as-documented)
       (λ r mr. rw same-shares (a′ .rounds-as-documented r mr))
 
   -- the agent's bundle in a round that serves it
@@ -115,7 +116,7 @@ module _ {n m : ℕ} {terms : Terms} {table : List (List ℕ)} {d d′ : Divisio
       rw (← at) (a .bundles-of-rounds r mr (i + 1) (omega arith) (omega arith)
       ∙ sym (a′ .bundles-of-rounds r (rw same-rounds at mr) (i + 1) (omega arith) (omega arith)))
 
-  same-bundle : (agent : ℕ) → 1 ≤ agent → agent ≤ n → nth [] (d .bundles) agent ≡ nth [] (d′ .bundles) agent
+  same-bundle : (agent : ℕ) → 1 ≤ agent → agent ≤ sheet .agents → nth [] (d .bundles) agent ≡ nth [] (d′ .bundles) agent
   same-bundle agent lo hi =
       let serves : Round → Bool = λ r. elem agent (r .served) in
       let (r, mr, e) = any-mem serves (a .rounds) (counted-any serves (a .rounds) (le-of-eq (sym (a .served-once agent lo hi)))) in
@@ -124,7 +125,7 @@ module _ {n m : ℕ} {terms : Terms} {table : List (List ℕ)} {d d′ : Divisio
   pub one-division : (d .shares ≡ d′ .shares) × (d .cuts ≡ d′ .cuts) × (d .cutters ≡ d′ .cutters) × (d .bundles ≡ d′ .bundles)
   one-division = (
     same-shares,
-    same-at-places [] n (d .cuts) (d′ .cuts) (a .cut-each) (a′ .cut-each) (λ i lo hi. one-cut (a .share-and-cut i lo hi) (a′ .share-and-cut i lo hi)),
+    same-at-places [] (sheet .agents) (d .cuts) (d′ .cuts) (a .cut-each) (a′ .cut-each) (λ i lo hi. one-cut (a .share-and-cut i lo hi) (a′ .share-and-cut i lo hi)),
     rw (a .cutters-of-rounds, a′ .cutters-of-rounds, same-rounds),
-    same-at-places [] n (d .bundles) (d′ .bundles) (a .bundle-each) (a′ .bundle-each) same-bundle,
+    same-at-places [] (sheet .agents) (d .bundles) (d′ .bundles) (a .bundle-each) (a′ .bundle-each) same-bundle,
   )

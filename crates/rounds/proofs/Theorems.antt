@@ -8,6 +8,7 @@ use Rattle.lists.specs.Lists.{range}
 use Rattle.lists.proofs.ranges.Ranges.{length-range}
 use Rattle.lists.proofs.members.Counting.{length-sublist}
 use Rattle.sheet.specs.Answers.{accepted}
+use Rattle.sheet.specs.Contents.{Contents, sheetOf}
 use Rattle.growth.specs.Growth.{growths}
 use Rattle.growth.proofs.Growths.{fewer-growths}
 use Rattle.shares.specs.Shares.{sharing, sharingWithin}
@@ -29,7 +30,7 @@ use Rattle.rounds.proofs.Answers.{answer-accepted}
 -- the rounds of a table, by any terms that promise no more than document 01
 module _ (n m : ℕ) (terms : Terms) (table : List (List ℕ)) (allowed : AtMostStandard n terms) where
   abbrev G : Instance
-  G = instanceOfTable n m terms table
+  G = instanceOfTable (sheetOf n m table) terms
 
   -- serving never fails: in every round there is a bundle for each agent served
   pub every-round-serves : (r : Round) → Mem r (allRounds n m G) → length (r .bundles) ≡ length (r .served)
@@ -50,13 +51,17 @@ module _ (n m : ℕ) (terms : Terms) (table : List (List ℕ)) (allowed : AtMost
       n (range 1 n) (range 1 m) (left-all n m G)
 
 -- so the cutter of no round runs out of the allowance of a table that is divided
-pub every-round-within-allowance : (n m : ℕ) (table : List (List ℕ)) (allowance : ℕ) (d : Division) → answer n m table allowance ≡ accepted d
-    → (r : Round) → Mem r (allRounds n m (standardInstance n m table)) → growths (length (r .agents)) (length (r .items)) ≤ allowance
-every-round-within-allowance n m table allowance d divided r mem =
-    omega (arith, no-round-has-more-growths n m (termsFor n) table (termsFor-at-most-standard n) r mem, answer-accepted n m table allowance d divided .2)
+pub every-round-within-allowance : (sheet : Contents) (allowance : ℕ) (d : Division) → answer sheet allowance ≡ accepted d
+    → (r : Round) → Mem r (allRounds (sheet .agents) (sheet .items) (standardInstance sheet)) → growths (length (r .agents)) (length (r .items)) ≤ allowance
+every-round-within-allowance sheet allowance d divided r mem =
+    omega (
+      arith,
+      no-round-has-more-growths (sheet .agents) (sheet .items) (termsFor (sheet .agents)) (sheet .table) (termsFor-at-most-standard (sheet .agents)) r mem,
+      answer-accepted sheet allowance d divided .2,
+    )
 
 -- "places beyond the yards and pieces in use count for nothing"
 pub agreeing-tables-same-answer : (n m : ℕ) (table table′ : List (List ℕ)) (allowance : ℕ) → AgreeInUse n m table table′
-    → answer n m table allowance ≡ answer n m table′ allowance
+    → answer (sheetOf n m table) allowance ≡ answer (sheetOf n m table′) allowance
 unfolding answer sharingWithin sharing
 agreeing-tables-same-answer n m table table′ allowance same = rw (profile-agree n m table table′ same)

@@ -9,7 +9,8 @@ use lib.ListN.{length}
 use Rattle.lists.specs.Lists.{range, Within, Rising, nth, count, elem}
 use Rattle.lists.specs.Dictionary.{Precedes}
 use Rattle.sheet.specs.Valuations.{itemValue}
-use Rattle.sheet.specs.Tables.{valuation, allValues, profile}
+use Rattle.sheet.specs.Tables.{valuation, allValues}
+use Rattle.sheet.specs.Contents.{Contents, valuationsOf}
 use Rattle.maximin.specs.Share.{leastBundle}
 use Rattle.terms.specs.declared.Terms.{Terms}
 use Rattle.matching.specs.Matching.{without, servedAgents, neighbours, freeBundles, Matched, bundleNumbers}
@@ -80,27 +81,27 @@ abbrev pub FollowOn : List ℕ → List ℕ → List Round → Type 0
 FollowOn agents items [] = agents ≡ []
 FollowOn agents items (r ∷ rs) = (r .agents ≡ agents) × (r .items ≡ items) × FollowOn (r .waiting) (r .left) rs
 
-module _ (n m : ℕ) (terms : Terms) (table : List (List ℕ)) (d : Division) where
+module _ (sheet : Contents) (terms : Terms) (d : Division) where
   -- what the rounds of a division go by: the terms, the places in use of the table, and the shares in the division
   abbrev pub instanceIn : Instance
-  instanceIn = record { terms = terms; valuations = profile n m table; shares = d .shares }
+  instanceIn = record { terms = terms; valuations = valuationsOf sheet; shares = d .shares }
 
-  -- demand 2, of the division of a table of n agents (yards) and m items (pieces): "Each yard's maximin share, the cut that shows it, every
+  -- demand 2, of the division of a sheet, by the terms: "Each yard's maximin share, the cut that shows it, every
   -- round and every pile are those of section 3.1 of the paper, with ties settled as document 01 says."
   pub record DividedAsDocumented : Type 0 where
     -- "Each yard's maximin share, the cut that shows it": "over all pieces and N piles", by the marks of the table
-    pub share-each : length (d .shares) ≡ n
-    pub cut-each : length (d .cuts) ≡ n
-    pub share-and-cut : (agent : ℕ) → 1 ≤ agent → agent ≤ n
-        → ShareAndCut n (allValues m (valuation table agent)) (nth 0 (d .shares) agent) (nth [] (d .cuts) agent)
+    pub share-each : length (d .shares) ≡ sheet .agents
+    pub cut-each : length (d .cuts) ≡ sheet .agents
+    pub share-and-cut : (agent : ℕ) → 1 ≤ agent → agent ≤ sheet .agents
+        → ShareAndCut (sheet .agents) (allValues (sheet .items) (valuation (sheet .table) agent)) (nth 0 (d .shares) agent) (nth [] (d .cuts) agent)
     -- "every round": from all agents and all items, each as document 01 says, until no agent waits
     pub rounds : List Round
-    pub rounds-follow-on : FollowOn (range 1 n) (range 1 m) rounds
+    pub rounds-follow-on : FollowOn (range 1 (sheet .agents)) (range 1 (sheet .items)) rounds
     pub rounds-as-documented : (r : Round) → Mem r rounds → RoundAsDocumented instanceIn r
     -- "the cutter of each round in turn"
     pub cutters-of-rounds : d .cutters ≡ map (λ r. r .cutter) rounds
     -- "every pile": each agent is served in one round, and its bundle is the one at its place among those served there
-    pub bundle-each : length (d .bundles) ≡ n
-    pub served-once : (agent : ℕ) → 1 ≤ agent → agent ≤ n → count (λ r. elem agent (r .served)) rounds ≡ 1
+    pub bundle-each : length (d .bundles) ≡ sheet .agents
+    pub served-once : (agent : ℕ) → 1 ≤ agent → agent ≤ sheet .agents → count (λ r. elem agent (r .served)) rounds ≡ 1
     pub bundles-of-rounds : (r : Round) → Mem r rounds → (k : ℕ) → 1 ≤ k → k ≤ length (r .served)
         → nth [] (d .bundles) (nth 0 (r .served) k) ≡ nth [] (r .bundles) k

@@ -3,9 +3,9 @@
 -- Assumes nothing: these are definitions.
 use mathlib.Core.Logic.{_⊎_, inl, inr}
 use mathlib.Core.List.{List, [], _∷_}
-use Prim.Native.Nat.{ℕ}
 use lib.IntN.{pos}
 use Rattle.sheet.specs.Answers.{Answer, accepted}
+use Rattle.sheet.specs.Contents.{Contents, sheetOf}
 use Rattle.terms.specs.declared.Terms.{Terms}
 use Rattle.cut.specs.Outcome.{Found, shared, cutting}
 use Rattle.cut.specs.SampleCuts.{Sample as CutSample}
@@ -14,9 +14,7 @@ use Rattle.rounds.specs.Division.{Division, answer}
 
 -- a sheet, with its division
 pub record Sample : Type 0 where
-  pub agents : ℕ
-  pub items : ℕ
-  pub rows : List (List ℕ)
+  pub sheet : Contents
   pub division : Division
 
 -- a row of the table: a sheet with its division, or a valuation to be cut with its share and partition
@@ -26,7 +24,7 @@ pub data Starred : Type 0 where
 
 -- what the definitions answer for a row
 abbrev pub answerByDefinitions : Starred → Answer Division ⊎ Answer Found
-answerByDefinitions (sheet s) = inl (answer (s .agents) (s .items) (s .rows) standardAllowance)
+answerByDefinitions (sheet s) = inl (answer (s .sheet) standardAllowance)
 answerByDefinitions (cut s) = inr (cutting (s .valuation) (s .set) (s .bundles) (s .allowance))
 
 -- what the row states
@@ -38,11 +36,10 @@ answerStated (cut s) = inr (s .answered)
 abbrev pub sheetA : Sample
 sheetA =
     record {
-      agents = 2;
-      items = 3;
-      rows = (5 ∷ 3 ∷ 4 ∷ []) ∷ (6 ∷ 2 ∷ 2 ∷ []) ∷ [];
+      sheet = sheetOf 2 3 ((5 ∷ 3 ∷ 4 ∷ []) ∷ (6 ∷ 2 ∷ 2 ∷ []) ∷ []);
       division = record {
         bundles = (1 ∷ []) ∷ (2 ∷ 3 ∷ []) ∷ [];
+        worths = 5 ∷ 4 ∷ [];
         shares = 5 ∷ 4 ∷ [];
         cuts = (1 ∷ 2 ∷ 2 ∷ []) ∷ (1 ∷ 2 ∷ 2 ∷ []) ∷ [];
         margins = pos 0 ∷ pos 0 ∷ [];
@@ -57,11 +54,10 @@ starred =
     sheet sheetA
     -- b
     ∷ sheet (record {
-      agents = 3;
-      items = 4;
-      rows = (1 ∷ 1 ∷ 1 ∷ 1 ∷ []) ∷ (6 ∷ 6 ∷ 3 ∷ 3 ∷ []) ∷ (2 ∷ 2 ∷ 2 ∷ 2 ∷ []) ∷ [];
+      sheet = sheetOf 3 4 ((1 ∷ 1 ∷ 1 ∷ 1 ∷ []) ∷ (6 ∷ 6 ∷ 3 ∷ 3 ∷ []) ∷ (2 ∷ 2 ∷ 2 ∷ 2 ∷ []) ∷ []);
       division = record {
         bundles = (3 ∷ []) ∷ (1 ∷ 2 ∷ []) ∷ (4 ∷ []) ∷ [];
+        worths = 1 ∷ 12 ∷ 2 ∷ [];
         shares = 1 ∷ 6 ∷ 2 ∷ [];
         cuts = (1 ∷ 1 ∷ 2 ∷ 3 ∷ []) ∷ (1 ∷ 2 ∷ 3 ∷ 3 ∷ []) ∷ (1 ∷ 1 ∷ 2 ∷ 3 ∷ []) ∷ [];
         margins = pos 2 ∷ pos 60 ∷ pos 4 ∷ [];
@@ -71,11 +67,10 @@ starred =
     })
     -- c
     ∷ sheet (record {
-      agents = 3;
-      items = 4;
-      rows = (1 ∷ 1 ∷ 1 ∷ 1 ∷ []) ∷ (4 ∷ 4 ∷ 3 ∷ 1 ∷ []) ∷ (1 ∷ 1 ∷ 1 ∷ 1 ∷ []) ∷ [];
+      sheet = sheetOf 3 4 ((1 ∷ 1 ∷ 1 ∷ 1 ∷ []) ∷ (4 ∷ 4 ∷ 3 ∷ 1 ∷ []) ∷ (1 ∷ 1 ∷ 1 ∷ 1 ∷ []) ∷ []);
       division = record {
         bundles = (1 ∷ 2 ∷ []) ∷ (3 ∷ []) ∷ (4 ∷ []) ∷ [];
+        worths = 2 ∷ 3 ∷ 1 ∷ [];
         shares = 1 ∷ 4 ∷ 1 ∷ [];
         cuts = (1 ∷ 1 ∷ 2 ∷ 3 ∷ []) ∷ (1 ∷ 2 ∷ 3 ∷ 3 ∷ []) ∷ (1 ∷ 1 ∷ 2 ∷ 3 ∷ []) ∷ [];
         margins = pos 10 ∷ pos 0 ∷ pos 2 ∷ [];
@@ -85,11 +80,10 @@ starred =
     })
     -- d
     ∷ sheet (record {
-      agents = 3;
-      items = 4;
-      rows = (1 ∷ 1 ∷ 1 ∷ 1 ∷ []) ∷ (8 ∷ 8 ∷ 5 ∷ 3 ∷ []) ∷ (1 ∷ 1 ∷ 1 ∷ 1 ∷ []) ∷ [];
+      sheet = sheetOf 3 4 ((1 ∷ 1 ∷ 1 ∷ 1 ∷ []) ∷ (8 ∷ 8 ∷ 5 ∷ 3 ∷ []) ∷ (1 ∷ 1 ∷ 1 ∷ 1 ∷ []) ∷ []);
       division = record {
         bundles = (3 ∷ []) ∷ (1 ∷ 2 ∷ []) ∷ (4 ∷ []) ∷ [];
+        worths = 1 ∷ 16 ∷ 1 ∷ [];
         shares = 1 ∷ 8 ∷ 1 ∷ [];
         cuts = (1 ∷ 1 ∷ 2 ∷ 3 ∷ []) ∷ (1 ∷ 2 ∷ 3 ∷ 3 ∷ []) ∷ (1 ∷ 1 ∷ 2 ∷ 3 ∷ []) ∷ [];
         margins = pos 2 ∷ pos 80 ∷ pos 2 ∷ [];
@@ -99,11 +93,10 @@ starred =
     })
     -- e
     ∷ sheet (record {
-      agents = 2;
-      items = 1;
-      rows = (7 ∷ []) ∷ (9 ∷ []) ∷ [];
+      sheet = sheetOf 2 1 ((7 ∷ []) ∷ (9 ∷ []) ∷ []);
       division = record {
         bundles = (1 ∷ []) ∷ [] ∷ [];
+        worths = 7 ∷ 0 ∷ [];
         shares = 0 ∷ 0 ∷ [];
         cuts = (1 ∷ []) ∷ (1 ∷ []) ∷ [];
         margins = pos 14 ∷ pos 0 ∷ [];
@@ -113,11 +106,10 @@ starred =
     })
     -- f
     ∷ sheet (record {
-      agents = 2;
-      items = 2;
-      rows = (0 ∷ 0 ∷ []) ∷ (0 ∷ 0 ∷ []) ∷ [];
+      sheet = sheetOf 2 2 ((0 ∷ 0 ∷ []) ∷ (0 ∷ 0 ∷ []) ∷ []);
       division = record {
         bundles = (1 ∷ 2 ∷ []) ∷ [] ∷ [];
+        worths = 0 ∷ 0 ∷ [];
         shares = 0 ∷ 0 ∷ [];
         cuts = (1 ∷ 1 ∷ []) ∷ (1 ∷ 1 ∷ []) ∷ [];
         margins = pos 0 ∷ pos 0 ∷ [];
@@ -131,11 +123,10 @@ starred =
     ∷ cut (record { valuation = 2 ∷ 2 ∷ 2 ∷ 2 ∷ []; set = 0b1111; bundles = 2; allowance = standardAllowance; answered = accepted (shared 4 (1 ∷ 1 ∷ 2 ∷ 2 ∷ []) 8) })
     -- i
     ∷ sheet (record {
-      agents = 1;
-      items = 3;
-      rows = (3 ∷ 0 ∷ 9 ∷ []) ∷ [];
+      sheet = sheetOf 1 3 ((3 ∷ 0 ∷ 9 ∷ []) ∷ []);
       division = record {
         bundles = (1 ∷ 2 ∷ 3 ∷ []) ∷ [];
+        worths = 12 ∷ [];
         shares = 12 ∷ [];
         cuts = (1 ∷ 1 ∷ 1 ∷ []) ∷ [];
         margins = pos 0 ∷ [];
@@ -145,11 +136,10 @@ starred =
     })
     -- even: every pile is worth just a third of its yard's total; yard 3 counts yard 1's pile as worth more
     ∷ sheet (record {
-      agents = 3;
-      items = 3;
-      rows = (1 ∷ 1 ∷ 1 ∷ []) ∷ (1 ∷ 1 ∷ 1 ∷ []) ∷ (5 ∷ 1 ∷ 3 ∷ []) ∷ [];
+      sheet = sheetOf 3 3 ((1 ∷ 1 ∷ 1 ∷ []) ∷ (1 ∷ 1 ∷ 1 ∷ []) ∷ (5 ∷ 1 ∷ 3 ∷ []) ∷ []);
       division = record {
         bundles = (1 ∷ []) ∷ (2 ∷ []) ∷ (3 ∷ []) ∷ [];
+        worths = 1 ∷ 1 ∷ 3 ∷ [];
         shares = 1 ∷ 1 ∷ 1 ∷ [];
         cuts = (1 ∷ 2 ∷ 3 ∷ []) ∷ (1 ∷ 2 ∷ 3 ∷ []) ∷ (1 ∷ 2 ∷ 3 ∷ []) ∷ [];
         margins = pos 2 ∷ pos 2 ∷ pos 18 ∷ [];
@@ -172,11 +162,10 @@ samples = sheetsOf starred
 abbrev pub twoThirdsSheet : Sample
 twoThirdsSheet =
     record {
-      agents = 3;
-      items = 4;
-      rows = (1 ∷ 1 ∷ 1 ∷ 1 ∷ []) ∷ (9 ∷ 9 ∷ 6 ∷ 3 ∷ []) ∷ (1 ∷ 1 ∷ 1 ∷ 1 ∷ []) ∷ [];
+      sheet = sheetOf 3 4 ((1 ∷ 1 ∷ 1 ∷ 1 ∷ []) ∷ (9 ∷ 9 ∷ 6 ∷ 3 ∷ []) ∷ (1 ∷ 1 ∷ 1 ∷ 1 ∷ []) ∷ []);
       division = record {
         bundles = (3 ∷ []) ∷ (1 ∷ 2 ∷ []) ∷ (4 ∷ []) ∷ [];
+        worths = 1 ∷ 18 ∷ 1 ∷ [];
         shares = 1 ∷ 9 ∷ 1 ∷ [];
         cuts = (1 ∷ 1 ∷ 2 ∷ 3 ∷ []) ∷ (1 ∷ 2 ∷ 3 ∷ 3 ∷ []) ∷ (1 ∷ 1 ∷ 2 ∷ 3 ∷ []) ∷ [];
         margins = pos 2 ∷ pos 90 ∷ pos 2 ∷ [];

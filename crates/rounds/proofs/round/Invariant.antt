@@ -19,6 +19,7 @@ use Rattle.sheet.specs.Valuations.{itemValue, value}
 use Rattle.maximin.specs.Share.{bundleValue, maximinShare}
 use Rattle.maximin.proofs.Laws.{maximinPartition-within, leastBundle-maximinPartition}
 use Rattle.sheet.specs.Tables.{valuation}
+use Rattle.sheet.specs.Contents.{sheetOf}
 use Rattle.shares.specs.Shares.{shareOf}
 use Rattle.matching.specs.Matching.{Matched, cutterOf, bundleNumbers, waitingOf, servedOf, freeOf, chosenOf}
 use Rattle.bundling.specs.Bundles.{bundle}
@@ -37,7 +38,7 @@ use Rattle.rounds.proofs.round.Parts.{cutterCut, cutSuits, waiting-sub,
 -- an instance of N agents and M items: terms that promise no more than document 01, and shares by the valuations
 pub record Sound (N M : ℕ) (G : Instance) : Type 0 where
   pub allowed : AtMostStandard N (G .terms)
-  pub own-shares : (agent : ℕ) → Mem agent (range 1 N) → nth 0 (G .shares) agent ≡ shareOf N M (G .valuations) agent
+  pub own-shares : (agent : ℕ) → Mem agent (range 1 N) → nth 0 (G .shares) agent ≡ shareOf (sheetOf N M (G .valuations)) agent
 
 -- the value of items to an agent
 abbrev valueTo : Instance → ℕ → List ℕ → ℕ
