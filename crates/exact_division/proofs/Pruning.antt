@@ -18,6 +18,7 @@ use Rattle.lists.proofs.sums.Totals.{sumOver-consIf}
 use Rattle.lists.proofs.sums.GreatestOf.{le-greatestOf}
 use Rattle.sheet.specs.Valuations.{itemValue, value}
 use Rattle.sheet.specs.Tables.{valuation}
+use Rattle.sheet.specs.Contents.{sheetOf}
 use Rattle.shares.specs.Shares.{shareOf}
 use Rattle.bundling.specs.Bundles.{bundle}
 use Rattle.exact_division.specs.Exact.{isExact, bundlesBy, exactExists}
@@ -72,21 +73,21 @@ module _ (n : ℕ) (v : ℕ → ℕ → ℕ) where
 abbrev pub marksOf : List (List ℕ) → ℕ → ℕ → ℕ
 marksOf table agent k = itemValue (valuation table agent) k
 
-module _ (n m : ℕ) (table : List (List ℕ)) (shares : ℕ → ℕ) (is-share : (agent : ℕ) → 1 ≤ agent → agent ≤ n → shareOf n m table agent ≡ shares agent) where
-  pub impossible-none : possible n (marksOf table) (range 1 m) (sumOver (most n (marksOf table)) (range 1 m)) shares ≡ false → exactExists n m table ≡ false
+module _ (n m : ℕ) (table : List (List ℕ)) (shares : ℕ → ℕ) (is-share : (agent : ℕ) → 1 ≤ agent → agent ≤ n → shareOf (sheetOf n m table) agent ≡ shares agent) where
+  pub impossible-none : possible n (marksOf table) (range 1 m) (sumOver (most n (marksOf table)) (range 1 m)) shares ≡ false → exactExists (sheetOf n m table) ≡ false
   unfolding isExact
-  impossible-none impossible = step (exactExists n m table) refl
+  impossible-none impossible = step (exactExists (sheetOf n m table)) refl
     where
-      found : exactExists n m table ≡ true → possible n (marksOf table) (range 1 m) (sumOver (most n (marksOf table)) (range 1 m)) shares ≡ true
+      found : exactExists (sheetOf n m table) ≡ true → possible n (marksOf table) (range 1 m) (sumOver (most n (marksOf table)) (range 1 m)) shares ≡ true
       found exists =
-          let (agents, listed, exact) = exists-giving n m table exists in
+          let (agents, listed, exact) = exists-giving (sheetOf n m table) exists in
           let (each, places) = listsOver-in (range 1 n) m listed in
           given-possible n (marksOf table) (range 1 m) agents (sumOver (most n (marksOf table)) (range 1 m)) shares (omega arith) (places ∙ sym (length-range 1 m)) each
           (λ a lo hi.
           let ma = in-range 1 n a lo (omega arith) in
-          let reached = leb-true (shareOf n m table a) (value (valuation table a) (nth [] (bundlesBy n m agents) a)) (all-mem _ exact ma) in
+          let reached = leb-true (shareOf (sheetOf n m table) a) (value (valuation table a) (nth [] (bundlesBy n m agents) a)) (all-mem _ exact ma) in
           omega (arith, reached, is-share a lo hi, ap (value (valuation table a)) (nth-map-range (bundle (range 1 m) agents) [] n ma)))
 
-      step : (b : Bool) → exactExists n m table ≡ b → exactExists n m table ≡ false
+      step : (b : Bool) → exactExists (sheetOf n m table) ≡ b → exactExists (sheetOf n m table) ≡ false
       step false e = e
       step true e = absurd (true≢false (sym (found e) ∙ impossible))

@@ -4,13 +4,14 @@ use mathlib.Core.Bool.{Bool, true, false}
 use mathlib.Core.List.{List, [], _∷_, map}
 use Prim.Native.Nat.{ℕ}
 use Rattle.sheet.specs.Answers.{refused}
+use Rattle.sheet.specs.Contents.{sheetOf}
 use Rattle.maximin.specs.Share.{maximinShare}
 use Rattle.shares.specs.Shares.{sharing}
 use Rattle.exact_division.specs.Exact.{isExact}
 use Rattle.exact_division.specs.Search.{searching}
 
 -- 0 and 7 yards give 4, 0 and 13 pieces give 5, and 4 is tried first
-pub refusals-hold : searching 0 3 [] ∷ searching 7 3 [] ∷ searching 2 0 [] ∷ searching 2 13 [] ∷ searching 7 13 [] ∷ []
+pub refusals-hold : map (λ (n, m). searching (sheetOf n m [])) ((0, 3) ∷ (7, 3) ∷ (2, 0) ∷ (2, 13) ∷ (7, 13) ∷ [])
     ≡ map refused (4 ∷ 4 ∷ 5 ∷ 5 ∷ 4 ∷ [])
 unfolding searching sharing
 refusals-hold = refl
@@ -34,6 +35,6 @@ allocations =
     ∷ record { bundles = (1 ∷ 2 ∷ []) ∷ (3 ∷ []) ∷ (4 ∷ []) ∷ []; exact = false }
     ∷ []
 
-pub allocations-judged : map (λ s. isExact 3 4 sheetC (s .bundles)) allocations ≡ map (λ s. s .exact) allocations
+pub allocations-judged : map (λ s. isExact (sheetOf 3 4 sheetC) (s .bundles)) allocations ≡ map (λ s. s .exact) allocations
 unfolding allocations isExact maximinShare
 allocations-judged = refl
