@@ -1,4 +1,4 @@
--- What the code's answer to a table says: how the search is answered, and which sets are shown. Assumes nothing.
+-- What the code's answer to a sheet says: how the search is answered, and which sets are shown. Assumes nothing.
 use mathlib.Core.Path.{_≡_, refl, sym, ap, _∙_}
 use mathlib.Core.Bool.{Bool, true, false}
 use mathlib.Core.List.{List, map}
@@ -7,6 +7,7 @@ use Rattle.lists.specs.Lists.{padded, zeros}
 use Rattle.sheet.specs.Limits.{mostAgents}
 use Rattle.sheet.specs.Sets.{setOf}
 use Rattle.sheet.specs.Answers.{Answer, refused, accepted}
+use Rattle.sheet.specs.Contents.{Contents}
 use Rattle.exact_division.specs.Search.{searching}
 use Rattle.exact_search.specs.Outcome.{outcome, Searched}
 use Rattle.exact_search.specs.declared.Answer.the-variants.{Refused, None, Found}
@@ -28,26 +29,26 @@ module _ (bundles : List (List ℕ)) where
   outcome-found (accepted true) e = refl
   outcome-found (accepted false) e = cc
 
-module _ {n m : ℕ} {table : List (List ℕ)} {o : Outcome} (s : Searched n m table o) where
-  answer-is : o .answer ≡ outcome (searching n m table) (s .bundles) .answer
+module _ {sheet : Contents} {o : Outcome} (s : Searched sheet o) where
+  answer-is : o .answer ≡ outcome (searching sheet) (s .bundles) .answer
   answer-is = ap (λ r. r .answer) (s .answered)
 
-  sets-are : (a : Answer Bool) → searching n m table ≡ a → o .bundles ≡ outcome a (s .bundles) .bundles
+  sets-are : (a : Answer Bool) → searching sheet ≡ a → o .bundles ≡ outcome a (s .bundles) .bundles
   sets-are a e = ap (λ r. r .bundles) (s .answered) ∙ ap (λ b. outcome b (s .bundles) .bundles) e
 
-  pub refused-answered : (number : ℕ) → o .answer ≡ Refused number → searching n m table ≡ refused number
-  refused-answered number e = outcome-refused (s .bundles) (searching n m table) number (sym answer-is ∙ e)
+  pub refused-answered : (number : ℕ) → o .answer ≡ Refused number → searching sheet ≡ refused number
+  refused-answered number e = outcome-refused (s .bundles) (searching sheet) number (sym answer-is ∙ e)
 
   -- none, with no set
-  pub none-answered : o .answer ≡ None → searching n m table ≡ accepted false
-  none-answered e = outcome-none (s .bundles) (searching n m table) (sym answer-is ∙ e)
+  pub none-answered : o .answer ≡ None → searching sheet ≡ accepted false
+  none-answered e = outcome-none (s .bundles) (searching sheet) (sym answer-is ∙ e)
 
   pub none-sets : o .answer ≡ None → o .bundles ≡ zeros mostAgents
   none-sets e = sets-are (accepted false) (none-answered e)
 
   -- found, with the sets of the bundles that are shown
-  pub found-answered : o .answer ≡ Found → searching n m table ≡ accepted true
-  found-answered e = outcome-found (s .bundles) (searching n m table) (sym answer-is ∙ e)
+  pub found-answered : o .answer ≡ Found → searching sheet ≡ accepted true
+  found-answered e = outcome-found (s .bundles) (searching sheet) (sym answer-is ∙ e)
 
   pub found-sets : o .answer ≡ Found → o .bundles ≡ padded mostAgents 0 (map setOf (s .bundles))
   found-sets e = sets-are (accepted true) (found-answered e)

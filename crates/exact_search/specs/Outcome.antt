@@ -8,6 +8,7 @@ use Rattle.lists.specs.Lists.{padded}
 use Rattle.sheet.specs.Limits.{mostAgents}
 use Rattle.sheet.specs.Sets.{setOf}
 use Rattle.sheet.specs.Answers.{Answer, refused, accepted}
+use Rattle.sheet.specs.Contents.{Contents}
 use Rattle.exact_division.specs.Search.{searching, MayShow}
 use Rattle.exact_search.specs.declared.Answer.the-variants.{Refused, None, Found}
 use Rattle.exact_search.specs.declared.Outcome.{Outcome}
@@ -18,10 +19,10 @@ outcome (refused number) bundles = record { answer = Refused number; bundles = p
 outcome (accepted false) bundles = record { answer = None; bundles = padded mostAgents 0 [] }
 outcome (accepted true) bundles = record { answer = Found; bundles = padded mostAgents 0 (map setOf bundles) }
 
--- what is promised of the answer r to a table of n agents and m items
-pub record Searched (n m : ℕ) (table : List (List ℕ)) (r : Outcome) : Type 0 where
+-- what is promised of the answer r to a sheet
+pub record Searched (sheet : Contents) (r : Outcome) : Type 0 where
   -- the bundles that are shown where there is an exact division: which of several is left free
   pub bundles : List (List ℕ)
-  pub may-show : MayShow n m table bundles
+  pub may-show : MayShow sheet bundles
   -- with these bundles, the whole answer
-  pub answered : r ≡ outcome (searching n m table) bundles
+  pub answered : r ≡ outcome (searching sheet) bundles

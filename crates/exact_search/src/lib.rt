@@ -1,8 +1,9 @@
-// The search for a division of a table of marks in which every agent (yard) has its whole maximin share (document 02, order 4). Its meaning
+// The search for a division of a sheet in which every agent (yard) has its whole maximin share (document 02, order 4). Its meaning
 // stands in specs/ and in the crate `exact_division`.
 ghost use mathlib.Core.Path.{_≡_};
 ghost use mathlib.Core.List.{[]};
 ghost use Rattle.sheet.specs.Answers.{refused};
+ghost use Rattle.sheet.specs.Contents.{sheetOf, contents};
 ghost use Rattle.shares.specs.Known.{SharesIn};
 ghost use Rattle.exact_search.specs.Outcome.{outcome, Searched};
 use crate::handing::hand_out;
@@ -17,7 +18,7 @@ use sheet::naming::all_items;
 mod handing;
 mod parts;
 
-// The number of the reason why the table is refused, or whether there is an exact division.
+// The number of the reason why the sheet is refused, or whether there is an exact division.
 pub enum Answer {
     Refused(u8),
     None,
@@ -40,10 +41,10 @@ fn refuse(number: u8) -> Outcome
     }
 }
 
-// The search in a table that is not refused, with the shares of its agents.
+// The search in a sheet that is not refused, with the shares of its agents.
 fn search(table: Table, agents: usize, items: usize, shares: Amounts) -> Outcome
-    requires { ⌜ SharesIn agents items table shares ⌝ }
-    ensures { λ r. ⌜ Searched agents items table r ⌝ }
+    requires { ⌜ SharesIn (sheetOf agents items table) shares ⌝ }
+    ensures { λ r. ⌜ Searched (sheetOf agents items table) r ⌝ }
 {
     let all = all_items(items);
     let levels = rank(table, shares, agents, items);
@@ -59,18 +60,17 @@ fn search(table: Table, agents: usize, items: usize, shares: Amounts) -> Outcome
     }
 }
 
-// A division of a table of marks in which every agent has its whole maximin share, or `None` where there is none. Refused as dividing
-// the table is.
-pub fn find_exact(table: Table, agents: usize, items: usize) -> Outcome
-    ensures { λ r. ⌜ Searched agents items table r ⌝ }
+// A division of a sheet in which every agent has its whole maximin share, or `None` where there is none. Refused as dividing the sheet is.
+pub fn find_exact(table: Table, sheet: Sheet) -> Outcome
+    ensures { λ r. ⌜ Searched (contents sheet table) r ⌝ }
 {
-    let own = share_each(table, agents, items);
+    let own = share_each(table, sheet);
     let answer = own.answer;
     match answer {
         shares::Answer::Refused(number) => refuse(number),
         shares::Answer::Shared => {
             let shares = own.shares;
-            search(table, agents, items, shares)
+            search(table, sheet.agents, sheet.items, shares)
         }
     }
 }

@@ -20,6 +20,7 @@ use Rattle.sheet.specs.Limits.{mostItems, setBits}
 use Rattle.sheet.specs.Sets.{itemsOf, setOf}
 use Rattle.sheet.specs.Valuations.{value}
 use Rattle.sheet.specs.Tables.{valuation}
+use Rattle.sheet.specs.Contents.{sheetOf}
 use Rattle.sheet.proofs.sets.Sets.{items-setOf}
 use Rattle.sheet.proofs.sets.Bits.{setOf-sum}
 use Rattle.sheet.proofs.sets.Ranges.{setOf-below}
@@ -79,8 +80,8 @@ module _ (w : ℕ → ℕ) (i : ℕ) where
       )
 
 module _ (n m : ℕ) (table : List (List ℕ)) (shares : List ℕ) (few : m ≤ mostItems)
-    (own-shares : (agent : ℕ) → Mem agent (range 1 n) → nth 0 shares agent ≡ shareOf n m table agent) where
-  module _ (l : List ℕ) (agents : (c : ℕ) → Mem c l → Mem c (range 1 n)) (same : length l ≡ m) (exact : isExact n m table (bundlesBy n m l) ≡ true) where
+    (own-shares : (agent : ℕ) → Mem agent (range 1 n) → nth 0 shares agent ≡ shareOf (sheetOf n m table) agent) where
+  module _ (l : List ℕ) (agents : (c : ℕ) → Mem c l → Mem c (range 1 n)) (same : length l ≡ m) (exact : isExact (sheetOf n m table) (bundlesBy n m l) ≡ true) where
     -- the items given to the first i agents
     abbrev upTo : ℕ → List ℕ
     upTo i = itemsIn (λ c. leb c i) (range 1 m) l
@@ -91,12 +92,12 @@ module _ (n m : ℕ) (table : List (List ℕ)) (shares : List ℕ) (few : m ≤ 
     upTo-sub : (i : ℕ) → Sublist (upTo i) (range 1 m)
     upTo-sub i = itemsIn-sublist (λ c. leb c i) (range 1 m) l
 
-    reached : (agent : ℕ) → Mem agent (range 1 n) → shareOf n m table agent ≤ value (valuation table agent) (bundle (range 1 m) l agent)
+    reached : (agent : ℕ) → Mem agent (range 1 n) → shareOf (sheetOf n m table) agent ≤ value (valuation table agent) (bundle (range 1 m) l agent)
     unfolding isExact
     reached agent ma =
         leb-true _ _
-        (subst (λ b. hasShare n m table agent b ≡ true) (nth-map-range (bundle (range 1 m) l) [] n ma)
-        (all-mem (λ i. hasShare n m table i (nth [] (bundlesBy n m l) i)) exact ma))
+        (subst (λ b. hasShare (sheetOf n m table) agent b ≡ true) (nth-map-range (bundle (range 1 m) l) [] n ma)
+        (all-mem (λ i. hasShare (sheetOf n m table) i (nth [] (bundlesBy n m l) i)) exact ma))
 
     -- the first i agents can be served from what they are given
     upTo-serves : (i : ℕ) → i ≤ n → Serves table shares i (setOf (upTo i))
@@ -110,7 +111,7 @@ module _ (n m : ℕ) (table : List (List ℕ)) (shares : List ℕ) (few : m ≤ 
         let kept : itemsOf (set - setOf (upTo i)) ≡ own = ap itemsOf (sym rest) ∙ items-of (itemsIn-sublist (eqb (suc i)) (range 1 m) l) in
         let ma = in-range 1 n (suc i) (omega arith) (omega arith) in
         let place : i ≡ suc i - 1 = omega arith in
-        let own-share : getD shares i 0 ≡ shareOf n m table (suc i) = ap (λ k. getD shares k 0) place ∙ own-shares (suc i) ma in
+        let own-share : getD shares i 0 ≡ shareOf (sheetOf n m table) (suc i) = ap (λ k. getD shares k 0) place ∙ own-shares (suc i) ma in
         let worth : value (getD table i []) (itemsOf (set - setOf (upTo i))) ≡ value (valuation table (suc i)) own =
         ap (λ k. value (getD table k []) (itemsOf (set - setOf (upTo i)))) place ∙ ap (value (valuation table (suc i))) kept in (
           setOf (upTo i),
@@ -128,8 +129,8 @@ module _ (n m : ℕ) (table : List (List ℕ)) (shares : List ℕ) (few : m ≤ 
         subst (λ ks. Serves table shares n (setOf ks)) whole (upTo-serves n (omega arith))
 
   -- where there is an exact division, the n agents can be served from all items
-  pub exists-serves : exactExists n m table ≡ true → Serves table shares n (setOf (range 1 m))
+  pub exists-serves : exactExists (sheetOf n m table) ≡ true → Serves table shares n (setOf (range 1 m))
   exists-serves e =
-      let (l, listed, exact) = exists-giving n m table e in
+      let (l, listed, exact) = exists-giving (sheetOf n m table) e in
       let (each, same) = listsOver-in (range 1 n) m listed in
       giving-serves l each same exact

@@ -23,6 +23,7 @@ use Rattle.sheet.specs.Sets.{itemsOf, setOf}
 use Rattle.sheet.specs.Valuations.{value}
 use Rattle.sheet.specs.Tables.{valuation}
 use Rattle.sheet.specs.Allocations.{Allocates}
+use Rattle.sheet.specs.Contents.{sheetOf}
 use Rattle.sheet.proofs.sets.Items.{setOf-items}
 use Rattle.sheet.proofs.sets.Bundles.{nth-items}
 use Rattle.shares.specs.Shares.{shareOf}
@@ -53,7 +54,7 @@ setOf-items-each (b ∷ sets) small =
     ap₂ _∷_ (setOf-items b mostItems (small b (here refl)) (omega arith)) (setOf-items-each sets (λ c mc. small c (there mc)))
 
 module _ (n m : ℕ) (table : List (List ℕ)) (shares bundles : List ℕ) (all : ℕ) (few : n ≤ mostAgents) (small : all < 2 ^ mostItems) (all-items : itemsOf all ≡ range 1 m)
-    (own-shares : (agent : ℕ) → Mem agent (range 1 n) → nth 0 shares agent ≡ shareOf n m table agent)
+    (own-shares : (agent : ℕ) → Mem agent (range 1 n) → nth 0 shares agent ≡ shareOf (sheetOf n m table) agent)
     (out : HandedOut table shares n all bundles) where
   -- the sets of the agents in use
   abbrev sets : List ℕ
@@ -108,15 +109,15 @@ module _ (n m : ℕ) (table : List (List ℕ)) (shares bundles : List ℕ) (all 
       let at : agent - 1 + 1 ≡ agent = omega arith in
       subst (λ a. nth [] shown a ≡ itemsOf (getD sets (agent - 1) 0)) at (nth-items sets (agent - 1)) ∙ ap itemsOf (getD-take n bundles (agent - 1) 0 (omega arith))
 
-  shown-exact : isExact n m table shown ≡ true
+  shown-exact : isExact (sheetOf n m table) shown ≡ true
   unfolding isExact
   shown-exact =
-      mem-all (λ agent. hasShare n m table agent (nth [] shown agent)) (range 1 n)
+      mem-all (λ agent. hasShare (sheetOf n m table) agent (nth [] shown agent)) (range 1 n)
       (λ agent ma. let b = range-bounds 1 n ma in
-      le-leb (shareOf n m table agent) (value (valuation table agent) (nth [] shown agent))
+      le-leb (shareOf (sheetOf n m table) agent) (value (valuation table agent) (nth [] shown agent))
       (omega (arith, own-shares agent ma, out .reached (agent - 1) (omega arith), ap (value (valuation table agent)) (nth-shown agent (b .0) (omega arith)))))
 
-  pub shown-exact-division : ExactDivision n m table shown
+  pub shown-exact-division : ExactDivision (sheetOf n m table) shown
   shown-exact-division = record { allocates = shown-allocates; items-rise = shown-rising; shares-reached = shown-exact }
 
   -- the sets stand in their places, with 0 after the last

@@ -1,6 +1,7 @@
--- `find_exact` meets its contract: the table is refused as its shares are, and else searched. Assumes nothing.
+-- `find_exact` meets its contract: the sheet is refused as its shares are, and else searched. Assumes nothing.
 use mathlib.Core.Path.{sym, ap, _∙_}
 use borrow.Author.Needs.{needs}
+use Rattle.sheet.specs.Contents.{contents}
 use Rattle.shares.specs.Shares.{sharing}
 use Rattle.shares.proofs.Outcomes.{answered-refused, answered-shared, shares-within}
 use Rattle.exact_division.proofs.Answers.{searching-refused}
@@ -24,10 +25,10 @@ search-requires : tie.Need-search-requires
 search-requires c κs =
     let own = c .before .before .before .share-each in
     let a = c .before .before .before .before .args in
-    let counts = answered-shared (a .agents) (a .items) (a .table) (sym (ap (λ o. o .answer) (own .ensures .0)) ∙ c .before .enum-told .given .1) in
+    let counts = answered-shared (contents (a .sheet) (a .table)) (sym (ap (λ o. o .answer) (own .ensures .0)) ∙ c .before .enum-told .given .1) in
     record {
       counts = counts;
-      each = ap (λ o. o .shares) (own .ensures .0) ∙ shares-within (a .agents) (a .items) (a .table) counts;
+      each = ap (λ o. o .shares) (own .ensures .0) ∙ shares-within (contents (a .sheet) (a .table)) counts;
       small = own .ensures .1;
     }
 
@@ -36,8 +37,8 @@ returns c =
     let at-own = c .before .before .before .before in
     let a = at-own .before .args in
     let number = c .before .before .answer .given .0 .0 in
-    let refused-so = answered-refused (sharing (a .agents) (a .items) (a .table)) number (sym (ap (λ o. o .answer) (at-own .share-each .ensures .0)) ∙ c .before .before .answer .given .1) in
-    searched-refused (a .agents) (a .items) (a .table) number _ (searching-refused (a .agents) (a .items) (a .table) number refused-so) (c .refuse .ensures)
+    let refused-so = answered-refused (sharing (contents (a .sheet) (a .table))) number (sym (ap (λ o. o .answer) (at-own .share-each .ensures .0)) ∙ c .before .before .answer .given .1) in
+    searched-refused (contents (a .sheet) (a .table)) number _ (searching-refused (contents (a .sheet) (a .table)) number refused-so) (c .refuse .ensures)
 
 returns-2 : tie.Need-returns-2
 returns-2 c = search needs

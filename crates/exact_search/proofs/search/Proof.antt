@@ -14,7 +14,7 @@ cast-if1 : tie.Need-cast-if1
 cast-if1 c = search needs
 
 array-read-if1 : tie.Need-array-read-if1
-array-read-if1 c = let a = c .before .before .args in small (a .agents) (a .items) (a .table) (a .shares) (c .before .before .pre) (c .before .all-items .result) (c .before .all-items .ensures)
+array-read-if1 c = small (c .before .before .pre) (c .before .all-items .result) (c .before .all-items .ensures)
 
 cast-if1-2 : tie.Need-cast-if1-2
 cast-if1-2 c = search needs
@@ -22,26 +22,23 @@ cast-if1-2 c = search needs
 returns : tie.Need-returns
 returns c =
     let s = c .before .before .before in
-    let a = s .args in
     let all = c .before .before .all-items in
     let levels = c .before .rank in
-    searched-none (a .agents) (a .items) (a .table) (a .shares) (s .pre) (all .result) (all .ensures) (levels .result) (levels .ensures) (c .if1 .taken)
+    searched-none (s .pre) (all .result) (all .ensures) (levels .result) (levels .ensures) (c .if1 .taken)
 
 hand-out-requires : tie.Need-hand-out-requires
 hand-out-requires c κs =
     let s = c .before .before .before .before in
-    let a = s .args in
     let all = c .before .before .before .all-items in
     let levels = c .before .before .rank in
-    can-hand (a .agents) (a .items) (a .table) (a .shares) (s .pre) (all .result) (all .ensures) (levels .result) (levels .ensures) (c .before .if1 .left)
+    can-hand (s .pre) (all .result) (all .ensures) (levels .result) (levels .ensures) (c .before .if1 .left)
 
 returns-2 : tie.Need-returns-2
 returns-2 c =
     let s = c .before .before .before .before .before in
-    let a = s .args in
     let all = c .before .before .before .before .all-items in
     let levels = c .before .before .before .rank in
-    searched-found (a .agents) (a .items) (a .table) (a .shares) (s .pre) (all .result) (all .ensures) (levels .result) (levels .ensures) (c .before .before .if1 .left)
+    searched-found (s .pre) (all .result) (all .ensures) (levels .result) (levels .ensures) (c .before .before .if1 .left)
     (c .hand-out .result) (c .hand-out .ensures)
 
 pub search-spec : {M : Type 1} → statement M
