@@ -16,6 +16,7 @@ use Rattle.text.specs.Bytes.{bytes}
 use Rattle.text.proofs.Spaced.{spaced, sumOver-spaced}
 use Rattle.sheet.specs.Limits.{mostAgents, mostItems, setBits}
 use Rattle.sheet.specs.Sets.{setOf}
+use Rattle.sheet.specs.Contents.{Contents}
 use Rattle.sheet.proofs.sets.Bundles.{nth-set-items}
 use Rattle.bundling.specs.Bundles.{bundle}
 use Rattle.bundling.proofs.Sums.{sumOver-handed}
@@ -32,36 +33,36 @@ unfolding flatMap
 length-groups [] = omega arith
 length-groups (b ∷ bundles) = omega (arith, length-append (spacedGroup b) (flatMap spacedGroup bundles), length-group b, length-groups bundles)
 
-module _ (n m : ℕ) (table bundles : List (List ℕ)) (d : ExactDivision n m table bundles) (few-items : m ≤ mostItems) where
-  bundle-sublist : (b : List ℕ) → Mem b bundles → Sublist b (range 1 m)
-  bundle-sublist b in-use = rising-range-sublist m b (d .items-rise b in-use) (d .allocates .no-other-item b in-use)
+module _ (sheet : Contents) (bundles : List (List ℕ)) (d : ExactDivision sheet bundles) (few-items : sheet .items ≤ mostItems) where
+  bundle-sublist : (b : List ℕ) → Mem b bundles → Sublist b (range 1 (sheet .items))
+  bundle-sublist b in-use = rising-range-sublist (sheet .items) b (d .items-rise b in-use) (d .allocates .no-other-item b in-use)
 
   -- the sets in the code's places name the bundles
-  setGroup-bundle : (i : ℕ) → Mem i (range 1 n) → setGroup (padded mostAgents 0 (map setOf bundles)) i ≡ spacedGroup (nth [] bundles i)
+  setGroup-bundle : (i : ℕ) → Mem i (range 1 (sheet .agents)) → setGroup (padded mostAgents 0 (map setOf bundles)) i ≡ spacedGroup (nth [] bundles i)
   setGroup-bundle i in-use =
-      let one = bundle-sublist (nth [] bundles i) (nth-mem [] bundles n (d .allocates .bundle-each) in-use) in
-      ap spacedGroup (nth-set-items n bundles (d .allocates .bundle-each) in-use (sublist-trans one (range-sublist 1 m setBits (omega arith))))
+      let one = bundle-sublist (nth [] bundles i) (nth-mem [] bundles (sheet .agents) (d .allocates .bundle-each) in-use) in
+      ap spacedGroup (nth-set-items (sheet .agents) bundles (d .allocates .bundle-each) in-use (sublist-trans one (range-sublist 1 (sheet .items) setBits (omega arith))))
 
-  pub setsText-exact : setsText n (padded mostAgents 0 (map setOf bundles)) ≡ exactText true bundles
+  pub setsText-exact : setsText (sheet .agents) (padded mostAgents 0 (map setOf bundles)) ≡ exactText true bundles
   unfolding setsText exactText
   setsText-exact =
       ap (λ t. bytes "(exact" ++ t ++ bytes ")\n")
-      (flatMap-cong (setGroup (padded mostAgents 0 (map setOf bundles))) (λ i. spacedGroup (nth [] bundles i)) (range 1 n) setGroup-bundle
-      ∙ sym (flatMap-map spacedGroup (nth [] bundles) (range 1 n))
-      ∙ ap (flatMap spacedGroup) (map-nth-range [] bundles n (d .allocates .bundle-each)))
+      (flatMap-cong (setGroup (padded mostAgents 0 (map setOf bundles))) (λ i. spacedGroup (nth [] bundles i)) (range 1 (sheet .agents)) setGroup-bundle
+      ∙ sym (flatMap-map spacedGroup (nth [] bundles) (range 1 (sheet .agents)))
+      ∙ ap (flatMap spacedGroup) (map-nth-range [] bundles (sheet .agents) (d .allocates .bundle-each)))
 
   -- the bundles name each item once
-  bundles-le-items : (w : ℕ → ℕ) → total (map (sumOver w) bundles) ≤ sumOver w (range 1 m)
+  bundles-le-items : (w : ℕ → ℕ) → total (map (sumOver w) bundles) ≤ sumOver w (range 1 (sheet .items))
   bundles-le-items w =
-      let agents = holders n m bundles in
+      let agents = holders (sheet .agents) (sheet .items) bundles in
       omega (
         arith,
-        ap (λ bs. total (map (sumOver w) bs)) (bundlesBy-holders n m bundles (d .allocates) bundle-sublist),
-        ap total (map-map (sumOver w) (bundle (range 1 m) agents) (range 1 n)),
-        sumOver-handed w (range 1 n) (range 1 m) agents (range-distinct 1 n) (length-map (range 1 m) _),
+        ap (λ bs. total (map (sumOver w) bs)) (bundlesBy-holders (sheet .agents) (sheet .items) bundles (d .allocates) bundle-sublist),
+        ap total (map-map (sumOver w) (bundle (range 1 (sheet .items)) agents) (range 1 (sheet .agents))),
+        sumOver-handed w (range 1 (sheet .agents)) (range 1 (sheet .items)) agents (range-distinct 1 (sheet .agents)) (length-map (range 1 (sheet .items)) _),
       )
 
-  pub length-exactText : n ≤ mostAgents → length (exactText true bundles) ≤ longestExact
+  pub length-exactText : sheet .agents ≤ mostAgents → length (exactText true bundles) ≤ longestExact
   unfolding exactText
   length-exactText few =
       simp length-append
@@ -70,6 +71,6 @@ module _ (n m : ℕ) (table bundles : List (List ℕ)) (d : ExactDivision n m ta
         length-groups bundles,
         d .allocates .bundle-each,
         bundles-le-items spaced,
-        sumOver-spaced 2 (range 1 m) (omega arith) (λ k mk. let b = range-bounds 1 m mk in omega arith),
-        length-range 1 m,
+        sumOver-spaced 2 (range 1 (sheet .items)) (omega arith) (λ k mk. let b = range-bounds 1 (sheet .items) mk in omega arith),
+        length-range 1 (sheet .items),
       ))

@@ -1,4 +1,4 @@
-// Printing an exact division of a table, or the word none, into a lent buffer (document 02, order 4). Its meaning stands in specs/.
+// Printing an exact division of a sheet, or the word none, into a lent buffer (document 02, order 4). Its meaning stands in specs/.
 ghost use mathlib.Core.Path.{_≡_};
 ghost use mathlib.Core.List.{flatMap};
 ghost use Prim.Native.Nat.{_≤_};
@@ -6,6 +6,7 @@ ghost use lib.ListN.{length};
 ghost use Rattle.lists.specs.Lists.{range};
 ghost use Rattle.sheet.specs.Limits.{mostAgents};
 ghost use Rattle.sheet.specs.Answers.{after};
+ghost use Rattle.sheet.specs.Contents.{contents};
 ghost use Rattle.writing.specs.Answered.{answered};
 ghost use Rattle.writing.specs.Filled.{filling, filled};
 ghost use Rattle.writing.specs.Output.{output, Written};
@@ -22,7 +23,7 @@ use writing::put;
 use writing::put_bytes;
 use writing::put_group;
 
-// A buffer of so many bytes is long enough for every table: (exact) and the line feed, a space and () for each agent, and at most three
+// A buffer of so many bytes is long enough for every sheet: (exact) and the line feed, a space and () for each agent, and at most three
 // bytes for each item.
 pub const LONGEST: usize = 8 + 3 * Sheet::AGENTS + 3 * Sheet::ITEMS;
 
@@ -65,19 +66,19 @@ fn print_bundles(agents: usize, bundles: Sets, buffer: &mut [u8]) -> Answer
     fill(&text[..length], buffer)
 }
 
-// Searches a table of marks with these counts for an exact division and prints it, or the word none, from the front of the buffer. Refused
+// Searches a sheet for an exact division and prints it, or the word none, from the front of the buffer. Refused
 // as by `find_exact`, else with 10 where the buffer is shorter than the text; then the buffer keeps all its bytes.
-pub fn print_exact(table: Table, agents: usize, items: usize, buffer: &mut [u8]) -> Answer
-    ensures { λ r. ⌜ Printed agents items table (now (buffer .entry)) r (now (buffer .exit)) ⌝ }
+pub fn print_exact(table: Table, sheet: Sheet, buffer: &mut [u8]) -> Answer
+    ensures { λ r. ⌜ Printed (contents sheet table) (now (buffer .entry)) r (now (buffer .exit)) ⌝ }
 {
-    let outcome = find_exact(table, agents, items);
+    let outcome = find_exact(table, sheet);
     let answer = outcome.answer;
     match answer {
         exact_search::Answer::Refused(number) => Answer::Refused(number),
         exact_search::Answer::None => fill(b"(exact none)\n", buffer),
         exact_search::Answer::Found => {
             let bundles = outcome.bundles;
-            print_bundles(agents, bundles, buffer)
+            print_bundles(sheet.agents, bundles, buffer)
         }
     }
 }
