@@ -15,8 +15,8 @@ use Rattle.sheet_to_exact.specs.Showing.{exactFrom, MayShowFor}
 module _ (text : List ℕ) (sheet : Contents) (read : reading text ≡ accepted sheet) where
   -- every accepted text gets its answer, an exact division or none: it is never refused with a buffer of `longestExact` bytes
   pub accepted-shown : (bundles : List (List ℕ)) (room : ℕ) → MayShowFor text bundles → longestExact ≤ room
-      → exactFrom text bundles room ≡ accepted (exactText (exactExists (sheet .agents) (sheet .items) (sheet .table)) bundles)
+      → exactFrom text bundles room ≡ accepted (exactText (exactExists sheet) bundles)
   unfolding exactFrom
   accepted-shown bundles room shown enough =
-      ap (λ a. andThen a (λ c. printingExact (c .agents) (c .items) (c .table) bundles room)) read
-      ∙ printingExact-within-limits (sheet .agents) (sheet .items) (sheet .table) bundles (shown sheet read) room enough (accepted-counts text sheet read)
+      ap (λ a. andThen a (λ c. printingExact c bundles room)) read
+      ∙ printingExact-within-limits sheet bundles (shown sheet read) room enough (accepted-counts text sheet read)

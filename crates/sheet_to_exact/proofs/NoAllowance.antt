@@ -20,7 +20,7 @@ module _ (text : List ℕ) (bundles : List (List ℕ)) (room : ℕ) where
   unfolding exactFrom printingExact
   exact-refusals =
       never-andThen 14 (reading text) _ (reading-refusals 14 (omega arith) text) (λ sheet.
-      never-andThen 14 (searching (sheet .agents) (sheet .items) (sheet .table)) _ (searching-refusals (sheet .agents) (sheet .items) (sheet .table) 14 (omega arith)) (λ exists.
+      never-andThen 14 (searching sheet) _ (searching-refusals sheet 14 (omega arith)) (λ exists.
       never-require 14 10 (leb (length (exactText exists bundles)) room) _ (λ e. omega arith) (never-accepted 14 _)))
 
   pub exact-never-refused-14 : exactFrom text bundles room ≡ refused 14 → ⊥

@@ -6,7 +6,7 @@ use lib.ListN.{length}
 use Rattle.sheet.specs.Answers.{Answer, refused, accepted, andThen, after}
 use Rattle.sheet.proofs.Accepted.{refused-not-accepted}
 use Rattle.sheet.specs.declared.Sheet.{Sheet}
-use Rattle.sheet.specs.Contents.{Contents}
+use Rattle.sheet.specs.Contents.{Contents, contents}
 use Rattle.reading.specs.Reading.{reading}
 use Rattle.reading.proofs.Composed.{HasTable}
 use Rattle.reading.proofs.Accepted.{accepted-injective}
@@ -19,7 +19,7 @@ use Rattle.sheet_to_exact.specs.Showing.{exactFrom, Shown}
 
 -- what follows reading, with these bundles and a buffer of so many bytes
 abbrev printingOf : List (List ℕ) → ℕ → Contents → Answer (List ℕ)
-printingOf bundles room sheet = printingExact (sheet .agents) (sheet .items) (sheet .table) bundles room
+printingOf bundles room sheet = printingExact sheet bundles room
 
 module _ (text : List ℕ) where
   -- a refusal of reading is the answer
@@ -36,14 +36,14 @@ module _ (text : List ℕ) where
 
   -- the answer to an accepted text is that to the sheet that was read
   pub printed-shown : (sheet : Contents) {counts : Sheet} {table : List (List ℕ)} {old new : List ℕ} {r : declared.Answer} → reading text ≡ accepted sheet → HasTable counts table sheet
-      → Printed (counts .agents) (counts .items) table old r new → Shown text old r new
+      → Printed (contents counts table) old r new → Shown text old r new
   unfolding exactFrom
   printed-shown sheet {counts} {table} {old} {new} {r} read same printed =
-      let p : Printed (sheet .agents) (sheet .items) (sheet .table) old r new = rw (same .agents-are, same .items-are, same .table-is) printed in
+      let p : Printed sheet old r new = rw (same .agents-are, same .items-are, same .table-is) printed in
       let told = sym (ap (λ a. andThen a (printingOf (p .bundles) (length old))) read) in
       record {
         bundles = p .bundles;
-        may-show = λ other e. subst (λ s. MayShow (s .agents) (s .items) (s .table) (p .bundles)) (accepted-injective sheet other (sym read ∙ e)) (p .may-show);
+        may-show = λ other e. subst (λ s. MayShow s (p .bundles)) (accepted-injective sheet other (sym read ∙ e)) (p .may-show);
         answer = p .answer ∙ ap answered told;
         buffer = p .buffer ∙ ap (λ q. after filled q old) told;
       }

@@ -11,6 +11,7 @@ use Rattle.sheet.specs.Limits.{blankRow}
 use Rattle.sheet.specs.Answers.{accepted, andThen}
 use Rattle.sheet.specs.Valuations.{itemValue}
 use Rattle.sheet.specs.Tables.{AgreeInUse}
+use Rattle.sheet.specs.Contents.{sheetOf}
 use Rattle.sheet.specs.ThreePlayers.{players}
 use Rattle.sheet_lines.specs.Kept.{tableOf}
 use Rattle.reading.specs.SampleTexts.{threePlayersSheet}
@@ -27,12 +28,12 @@ use Rattle.sheet_to_exact.specs.Showing.{exactFrom}
 same-marks : AgreeInUse 3 12 (tableOf players) players
 same-marks agent k some few some-items few-items = ap (λ row. itemValue row k) (List·getD-append players (replicate 3 blankRow) [] (agent - 1) (omega arith))
 
-searched : searching 3 12 (tableOf players) ≡ accepted false
+searched : searching (sheetOf 3 12 (tableOf players)) ≡ accepted false
 searched = agreeing-tables-same-search 3 12 (tableOf players) players same-marks ∙ three-players-none
 
 -- whatever the bundles and the length of the buffer
 pub three-players-none-shown : (bundles : List (List ℕ)) (room : ℕ) → exactFrom threePlayersSheet bundles room ≡ filling room (bytes "(exact none)\n")
 unfolding exactFrom printingExact exactText
 three-players-none-shown bundles room =
-    ap (λ a. andThen a (λ c. printingExact (c .agents) (c .items) (c .table) bundles room)) three-players-read
+    ap (λ a. andThen a (λ c. printingExact c bundles room)) three-players-read
     ∙ ap (λ a. andThen a (λ exists. filling room (exactText exists bundles))) searched

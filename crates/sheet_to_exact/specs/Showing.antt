@@ -15,11 +15,11 @@ use Rattle.exact_printing.specs.Printing.{printingExact}
 -- "An entry that reads a sheet tries 1 to 9 first, and one that fills a lent buffer tries 10 last": a text, the bundles that are shown
 -- where there is an exact division, and the length of the buffer
 unfoldable pub exactFrom : List ℕ → List (List ℕ) → ℕ → Answer (List ℕ)
-exactFrom text bundles room = andThen (reading text) (λ sheet. printingExact (sheet .agents) (sheet .items) (sheet .table) bundles room)
+exactFrom text bundles room = andThen (reading text) (λ sheet. printingExact sheet bundles room)
 
 -- the bundles that may be shown for a text: those that may be shown for the sheet that it holds
 abbrev pub MayShowFor : List ℕ → List (List ℕ) → Type 0
-MayShowFor text bundles = (sheet : Contents) → reading text ≡ accepted sheet → MayShow (sheet .agents) (sheet .items) (sheet .table) bundles
+MayShowFor text bundles = (sheet : Contents) → reading text ≡ accepted sheet → MayShow sheet bundles
 
 -- what is promised of the answer r to a text, and of the lent buffer, that held `old` and then holds `new`
 pub record Shown (text old : List ℕ) (r : declared.Answer) (new : List ℕ) : Type 0 where

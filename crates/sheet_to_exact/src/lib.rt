@@ -14,7 +14,7 @@ pub fn show_exact(text: &[u8], buffer: &mut [u8]) -> Answer
         reading::Answer::Accepted(sheet) => {
             let rows = found.rows;
             let table = reading::table(rows);
-            exact_printing::print_exact(table, sheet.agents, sheet.items, buffer)
+            exact_printing::print_exact(table, sheet, buffer)
         }
     }
 }
