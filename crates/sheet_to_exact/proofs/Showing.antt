@@ -5,10 +5,8 @@ use Prim.Native.Nat.{ℕ}
 use lib.ListN.{length}
 use Rattle.sheet.specs.Answers.{Answer, refused, accepted, andThen, after}
 use Rattle.sheet.proofs.Accepted.{refused-not-accepted}
-use Rattle.sheet.specs.declared.Sheet.{Sheet}
-use Rattle.sheet.specs.Contents.{Contents, contents}
+use Rattle.sheet.specs.Contents.{Contents}
 use Rattle.reading.specs.Reading.{reading}
-use Rattle.reading.proofs.Composed.{HasTable}
 use Rattle.reading.proofs.Accepted.{accepted-injective}
 use Rattle.writing.specs.Filled.{filled}
 use Rattle.writing.specs.Answered.{answered}
@@ -35,11 +33,9 @@ module _ (text : List ℕ) where
       }
 
   -- the answer to an accepted text is that to the sheet that was read
-  pub printed-shown : (sheet : Contents) {counts : Sheet} {table : List (List ℕ)} {old new : List ℕ} {r : declared.Answer} → reading text ≡ accepted sheet → HasTable counts table sheet
-      → Printed (contents counts table) old r new → Shown text old r new
+  pub printed-shown : (sheet : Contents) {old new : List ℕ} {r : declared.Answer} → reading text ≡ accepted sheet → Printed sheet old r new → Shown text old r new
   unfolding exactFrom
-  printed-shown sheet {counts} {table} {old} {new} {r} read same printed =
-      let p : Printed sheet old r new = rw (same .agents-are, same .items-are, same .table-is) printed in
+  printed-shown sheet {old} read p =
       let told = sym (ap (λ a. andThen a (printingOf (p .bundles) (length old))) read) in
       record {
         bundles = p .bundles;

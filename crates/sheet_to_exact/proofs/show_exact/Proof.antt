@@ -1,6 +1,7 @@
 -- `show_exact` meets its contract, by what reading and printing ensure and the case of reading's answer. Assumes nothing.
 use mathlib.Core.Path.{sym, _∙_}
 use Rattle.sheet.specs.Answers.{accepted}
+use Rattle.sheet.specs.Contents.{contents}
 use Rattle.sheet.proofs.Accepted.{andThen-accepted}
 use Rattle.reading.specs.Reading.{reading}
 use Rattle.reading.proofs.Composed.{refused-read, sheet-read}
@@ -41,8 +42,8 @@ returns-2 c =
     let at-answer = at-table .before .before .before in
     let at-read = at-answer .before .before in
     let text = at-read .before .before .before .args .text .now in
-    let told = sheet-read text (at-read .read .ensures) (at-answer .answer2 .given .1) (at-table .table .ensures) in
-    printed-shown text (told .0) (told .1) (told .2) (at-print .print-exact .ensures)
+    let sheet = contents (at-answer .answer2 .given .0 .0) (at-table .table .result) in
+    printed-shown text sheet (sheet-read text (at-read .read .ensures) (at-answer .answer2 .given .1) (at-table .table .ensures)) (at-print .print-exact .ensures)
 
 pub show-exact-spec : {M : Type 1} → statement M
 show-exact-spec =
