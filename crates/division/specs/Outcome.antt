@@ -10,12 +10,14 @@ use Rattle.rounds.specs.Division.{Division}
 use Rattle.division.specs.declared.Answer.the-variants.{Refused, Divided}
 use Rattle.division.specs.declared.Outcome.{Outcome}
 
--- a refusal has its number and nothing else; a division its grade, the bundles (piles) as sets, the shares, the cuts and the cutters:
--- a place for each agent (yard) that a sheet may have, blank after the last in use
+-- a refusal has its number and nothing else; a division its grade, the worths, the bundles (piles) as sets, the shares, the cuts and the
+-- cutters: a place for each agent (yard) that a sheet may have, blank after the last in use
 abbrev pub outcome : Answer Division → Outcome
 outcome (refused number) =
     record {
       answer = Refused number;
+      grade = 0;
+      worths = padded mostAgents 0 [];
       bundles = padded mostAgents 0 [];
       shares = padded mostAgents 0 [];
       cuts = padded mostAgents blankCut [];
@@ -23,7 +25,9 @@ outcome (refused number) =
     }
 outcome (accepted d) =
     record {
-      answer = Divided (d .grade);
+      answer = Divided;
+      grade = d .grade;
+      worths = padded mostAgents 0 (d .worths);
       bundles = padded mostAgents 0 (map setOf (d .bundles));
       shares = padded mostAgents 0 (d .shares);
       cuts = padded mostAgents blankCut (map cutOf (d .cuts));

@@ -8,11 +8,12 @@ use Prim.Native.Nat.{ℕ, _*_, _-_, _≤_, _<_}
 use lib.Dec.{leb}
 use lib.ListN.{length, take}
 use Rattle.lists.specs.Lists.{range, zeros, filter, nth}
-use Rattle.sheet.specs.Limits.{mostAgents, mostItems}
+use Rattle.sheet.specs.Limits.{mostAgents, CountsWithin}
 use Rattle.sheet.specs.Sets.{itemsOf}
 use Rattle.terms.specs.Terms.{largestOdd}
 use Rattle.sheet.specs.Valuations.{value}
 use Rattle.sheet.specs.Tables.{valuation}
+use Rattle.sheet.specs.Contents.{Contents}
 use Rattle.sheet.specs.Allocations.{Allocates}
 use Rattle.growth.specs.Growth.{growths}
 use Rattle.shares.specs.Shares.{shareOf}
@@ -22,7 +23,7 @@ use Rattle.division.specs.declared.Outcome.{Outcome}
 
 abbrev pub isDivided : Answer → Bool
 isDivided (Refused number) = false
-isDivided (Divided grade) = true
+isDivided Divided = true
 
 -- whether the code's answer is a division
 abbrev pub isDivision : Outcome → Bool
@@ -36,24 +37,25 @@ bundlesIn n r = cond (isDivision r) (map itemsOf (take n (r .bundles))) []
 abbrev pub allAgents : ℕ → List ℕ
 allAgents n = range 1 n
 
-module _ (n m : ℕ) (table : List (List ℕ)) where
+module _ (sheet : Contents) where
   -- "a pile for which (3K - 1) × worth is at least 2K × share"
   abbrev pub keepsPromise : ℕ → List ℕ → Bool
-  keepsPromise agent bundle = leb (2 * largestOdd n * shareOf n m table agent) ((3 * largestOdd n - 1) * value (valuation table agent) bundle)
+  keepsPromise agent bundle =
+      leb (2 * largestOdd (sheet .agents) * shareOf sheet agent) ((3 * largestOdd (sheet .agents) - 1) * value (valuation (sheet .table) agent) bundle)
 
   -- "The second list is, rising, the yards holding a pile for which" the promise is kept
   abbrev pub satisfiedAgents : List (List ℕ) → List ℕ
   satisfiedAgents bundles = filter (λ agent. keepsPromise agent (nth [] bundles agent)) (range 1 (length bundles))
 
--- what is promised of the answer r to a table of n agents and m items, divided with an allowance
-pub record Promised (n m : ℕ) (table : List (List ℕ)) (allowance : ℕ) (r : Outcome) : Type 0 where
+-- what is promised of the answer r to a sheet that is divided with an allowance
+pub record Promised (sheet : Contents) (allowance : ℕ) (r : Outcome) : Type 0 where
   -- the two lists of demand 3 are equal exactly where the answer is a division
-  pub satisfied-iff-division : 1 ≤ n → (allAgents n ≡ satisfiedAgents n m table (bundlesIn n r)) ↔ (isDivision r ≡ true)
+  pub satisfied-iff-division : 1 ≤ sheet .agents → (allAgents (sheet .agents) ≡ satisfiedAgents sheet (bundlesIn (sheet .agents) r)) ↔ (isDivision r ≡ true)
   -- without a division no agent holds an item
   pub refusal-holds-nothing : isDivision r ≡ false → r .bundles ≡ zeros mostAgents
   -- 14 "by the division when the growth layouts of all pieces into N piles outnumber A" (document 02, order 7)
-  pub beyond-allowance-refused : 1 ≤ n → n ≤ mostAgents → 1 ≤ m → m ≤ mostItems → allowance < growths n m → r .answer ≡ Refused 14
+  pub beyond-allowance-refused : CountsWithin (sheet .agents) (sheet .items) → allowance < growths (sheet .agents) (sheet .items) → r .answer ≡ Refused 14
   -- "all other tables within the limits are divided" (document 02, order 7)
-  pub within-limits-divided : 1 ≤ n → n ≤ mostAgents → 1 ≤ m → m ≤ mostItems → growths n m ≤ allowance → isDivision r ≡ true
+  pub within-limits-divided : CountsWithin (sheet .agents) (sheet .items) → growths (sheet .agents) (sheet .items) ≤ allowance → isDivision r ≡ true
   -- in every division each item is in exactly one bundle, and no bundle has any other item
-  pub division-allocates : isDivision r ≡ true → Allocates n m (bundlesIn n r)
+  pub division-allocates : isDivision r ≡ true → Allocates (sheet .agents) (sheet .items) (bundlesIn (sheet .agents) r)

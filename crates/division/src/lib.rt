@@ -1,15 +1,14 @@
 // Dividing a table of marks among its agents (yards). Its meaning stands in specs/ and in the crate `rounds`, the promise in proofs/Theorems.antt.
 ghost use mathlib.Core.Path.{_≡_};
 ghost use Rattle.sheet.specs.Answers.{refused, accepted};
-ghost use Rattle.rounds.specs.Division.{instanceOfTable, divisionOf, answer};
+ghost use Rattle.sheet.specs.Contents.{contents};
+ghost use Rattle.rounds.specs.Division.{divisionByTerms, answer};
 ghost use Rattle.division.specs.Outcome.{outcome};
 ghost use Rattle.division.specs.Promise.{Promised};
 ghost use Rattle.division.specs.internal.Shared.{IsShared};
 use crate::dividing::divide_left;
 use crate::dividing::nothing_handed_out;
-use grading::grade_of;
-use grading::worths_of;
-use margins::margins_of;
+use grading::assess;
 use serving::cutter_of;
 use shares::Cut;
 use shares::share_each_within;
@@ -26,16 +25,18 @@ mod dividing;
 // How many growth partitions each cut of the dividing program may look at: "The dividing program allows 4,000,000".
 pub const ALLOWANCE: u32 = 4000000;
 
-// The number of the reason why the table is refused, or the grade of its division.
+// The number of the reason why the table is refused, or that it is divided.
 pub enum Answer {
     Refused(u8),
-    Divided(u8),
+    Divided,
 }
 
-// The answer; for each agent its bundle as a set of items, its maximin share and its cut; the cutter of each round in turn.
-// All places that are not in use are 0, and so are all where the table is refused.
+// The answer; the grade; for each agent the worth of its bundle, the bundle as a set of items, its maximin share and its cut; the cutter
+// of each round in turn. All places that are not in use are 0, and so are all where the table is refused.
 pub struct Outcome {
     pub answer: Answer,
+    pub grade: u8,
+    pub worths: Amounts,
     pub bundles: Sets,
     pub shares: Amounts,
     pub cuts: [Cut; Sheet::AGENTS],
@@ -51,6 +52,8 @@ fn refuse(number: u8) -> Outcome
     };
     Outcome {
         answer: Answer::Refused(number),
+        grade: 0,
+        worths: [0; Sheet::AGENTS],
         bundles: [0; Sheet::AGENTS],
         shares: [0; Sheet::AGENTS],
         cuts: [blank; Sheet::AGENTS],
@@ -61,18 +64,17 @@ fn refuse(number: u8) -> Outcome
 // The division of a table that is not refused, by the terms, from the shares and the cuts: the first cutter's own cut serves the first round.
 fn divide_shared(
     table: Table,
-    agents: usize,
-    items: usize,
+    sheet: Sheet,
     terms: Terms,
     allowance: u32,
     own: shares::Outcome,
 ) -> Outcome
-    requires { ⌜ IsShared agents items table terms allowance own ⌝ }
-    ensures { λ r. ⌜ r ≡ outcome (accepted (divisionOf agents items (instanceOfTable agents items terms table))) ⌝ }
+    requires { ⌜ IsShared (contents sheet table) terms allowance own ⌝ }
+    ensures { λ r. ⌜ r ≡ outcome (accepted (divisionByTerms (contents sheet table) terms)) ⌝ }
 {
     let shares = own.shares;
     let cuts = own.cuts;
-    let all = all_items(agents);
+    let all = all_items(sheet.agents);
     let cutter = cutter_of(all);
     let own_cut = cuts[cutter as usize - 1];
     let partition = own_cut.partition;
@@ -84,17 +86,18 @@ fn divide_shared(
         allowance,
         cutter,
         all,
-        all_items(items),
+        all_items(sheet.items),
         partition,
         nothing,
     );
     let bundles = allocation.bundles;
     let cutters = allocation.cutters;
-    let worths = worths_of(table, agents, items, bundles);
-    let margins = margins_of(agents, terms, worths, shares);
-    let grade = grade_of(table, agents, items, shares, margins, bundles);
+    let assessed = assess(table, sheet, terms, shares, bundles);
+    let worths = assessed.worths;
     Outcome {
-        answer: Answer::Divided(grade),
+        answer: Answer::Divided,
+        grade: assessed.grade,
+        worths,
         bundles,
         shares,
         cuts,
@@ -105,21 +108,16 @@ fn divide_shared(
 // The division of a table of marks with these counts. Refused as its shares are: with 4 where the agents lie outside the limits, else
 // with 5 where the items do, else with 9 where a share times the agents exceeds the sum of its marks, else with 14 where the growth
 // partitions of all items into as many bundles as agents outnumber the allowance.
-pub fn divide(table: Table, agents: usize, items: usize, allowance: u32) -> Outcome
-    ensures answered { λ r. ⌜ r ≡ outcome (answer agents items table allowance) ⌝ }
-    ensures promised { λ r. ⌜ Promised agents items table allowance r ⌝ }
+pub fn divide(table: Table, sheet: Sheet, allowance: u32) -> Outcome
+    ensures answered { λ r. ⌜ r ≡ outcome (answer (contents sheet table) allowance) ⌝ }
+    ensures promised { λ r. ⌜ Promised (contents sheet table) allowance r ⌝ }
 {
-    let own = share_each_within(table, agents, items, allowance);
+    let own = share_each_within(table, sheet, allowance);
     let answer = own.answer;
     match answer {
         shares::Answer::Refused(number) => refuse(number),
-        shares::Answer::Shared => divide_shared(
-            table,
-            agents,
-            items,
-            terms_for(agents),
-            allowance,
-            own,
-        ),
+        shares::Answer::Shared => {
+            divide_shared(table, sheet, terms_for(sheet.agents), allowance, own)
+        }
     }
 }

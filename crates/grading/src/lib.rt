@@ -3,7 +3,6 @@ ghost use mathlib.Core.Path.{_≡_};
 ghost use Prim.Native.Nat.{min};
 ghost use Rattle.sheet.specs.Limits.{mostAgents};
 ghost use Rattle.sheet.specs.Contents.{contents};
-ghost use Rattle.sheet.specs.Amounts.{SmallAmounts};
 ghost use Rattle.grades.specs.Assessment.{assessmentIn};
 ghost use Rattle.grading.specs.Assessed.{assessed};
 ghost use Rattle.grading.specs.internal.ByAmounts.{gradeByAmounts};
@@ -52,7 +51,7 @@ fn grade_by(agents: usize, compared: Compared, shares: Amounts, margins: Margins
 // What any allocation comes to, by the terms and the shares. Agents and items above the limits of a sheet, and items in a bundle above
 // those of the sheet, count for nothing; the terms, and the shares for the margins, are cut to their limits.
 pub fn assess(table: Table, sheet: Sheet, terms: Terms, shares: Amounts, bundles: Sets) -> Assessed
-    ensures { λ r. ⌜ (r ≡ assessed (assessmentIn (contents sheet table) terms shares bundles)) × SmallAmounts (r .worths) ⌝ }
+    ensures { λ r. ⌜ r ≡ assessed (assessmentIn (contents sheet table) terms shares bundles) ⌝ }
 {
     let agents = sheet.agents;
     let compared = compare(table, agents, sheet.items, bundles);

@@ -1,4 +1,4 @@
--- `division::divide_shared` meets its contract: what the rounds hand out, its grade, the shares and the cuts are those of the definition.
+-- `division::divide_shared` meets its contract: what the rounds hand out, what that comes to, the shares and the cuts are those of the definition.
 -- Assumes nothing.
 use mathlib.Core.Path.{_≡_, ap, ap₂, subst⁻¹, _∙_}
 use mathlib.Core.List.{[], List·Memᴰ as Mem}
@@ -10,7 +10,6 @@ use Rattle.lists.proofs.ranges.Ranges.{range-bounds, length-range}
 use Rattle.sheet.specs.Limits.{mostAgents, mostItems}
 use Rattle.sheet.specs.Sets.{itemsOf, setOf}
 use Rattle.shares.specs.declared.Cut.{Cut}
-use Rattle.grades.specs.Grade.{gradeIn}
 use Rattle.matching.specs.Matching.{cutterOf}
 use Rattle.matching.proofs.Cutter.{cutterOf-mem}
 use Rattle.serving.specs.Serving.{agentsIn}
@@ -32,18 +31,18 @@ at-cutter c = c .before .before .before
 agents-are : (c : tie.After-all-items) → let s = start c in c .all-items .result ≡ allAgents (s .pre)
 agents-are c =
     let s = start c in
-    c .all-items .ensures ∙ upTo-is (s .args .agents) mostAgents (s .pre .known .counts .few) (omega arith)
+    c .all-items .ensures ∙ upTo-is (s .args .sheet .agents) mostAgents (s .pre .known .counts .few) (omega arith)
 
 items-are : (c : tie.After-all-items2) → let s = start (at-cutter (c .before) .before) in c .all-items2 .result ≡ allItems (s .pre)
 items-are c =
     let s = start (at-cutter (c .before) .before) in
-    c .all-items2 .ensures ∙ upTo-is (s .args .items) mostItems (s .pre .known .counts .few-items) (omega arith)
+    c .all-items2 .ensures ∙ upTo-is (s .args .sheet .items) mostItems (s .pre .known .counts .few-items) (omega arith)
 
 -- the cutter is one of the agents
-cutter-mem : (c : tie.After-cutter-of) → Mem (c .cutter-of .result) (range 1 (start (c .before) .args .agents))
+cutter-mem : (c : tie.After-cutter-of) → Mem (c .cutter-of .result) (range 1 (start (c .before) .args .sheet .agents))
 cutter-mem c =
     let s = start (c .before) in
-    let n = s .args .agents in
+    let n = s .args .sheet .agents in
     let all = ap agentsIn (agents-are (c .before)) ∙ agentsIn-all (s .pre) in
     subst⁻¹ (λ k. Mem k (range 1 n)) (c .cutter-of .ensures ∙ ap cutterOf all) (cutterOf-mem (range 1 n) (omega (arith, length-range 1 n, s .pre .known .counts .some)))
 
@@ -57,13 +56,13 @@ cast-own-cut : tie.Need-cast-own-cut
 cast-own-cut c = search needs
 
 sub-own-cut : tie.Need-sub-own-cut
-sub-own-cut c = range-bounds 1 (start (c .before) .args .agents) (cutter-mem c) .0
+sub-own-cut c = range-bounds 1 (start (c .before) .args .sheet .agents) (cutter-mem c) .0
 
 mul-own-cut : tie.Need-mul-own-cut
 mul-own-cut c = search needs
 
 array-copy-out-own-cut : tie.Need-array-copy-out-own-cut
-array-copy-out-own-cut c = let s = start (c .before) in omega (arith, range-bounds 1 (s .args .agents) (cutter-mem c), s .pre .known .counts .few)
+array-copy-out-own-cut c = let s = start (c .before) in omega (arith, range-bounds 1 (s .args .sheet .agents) (cutter-mem c), s .pre .known .counts .few)
 
 nothing-handed-out-requires : tie.Need-nothing-handed-out-requires
 nothing-handed-out-requires c κs = search needs
@@ -78,20 +77,14 @@ divide-left-requires c κs =
     let s = start (cutter .before) in
     let a = s .args in
     let none : Cut = record { partition = [] } in (
-      rw (agents-are (cutter .before), items-are c) (subst⁻¹ (Ready (a .terms) (a .own .shares) (a .allowance) (setOf (range 1 (a .agents))) (setOf (range 1 (a .items)))) (at-nothing .nothing-handed-out .ensures)
+      rw (agents-are (cutter .before), items-are c) (subst⁻¹ (Ready (a .terms) (a .own .shares) (a .allowance) (setOf (range 1 (a .sheet .agents))) (setOf (range 1 (a .sheet .items)))) (at-nothing .nothing-handed-out .ensures)
           (ready-all (s .pre))),
       cutter .cutter-of .ensures,
       rw (agents-are (cutter .before), items-are c) (own-cut (s .pre) none (cutter .cutter-of .result) (cutter-mem cutter)),
     )
 
-worths-of-requires : tie.Need-worths-of-requires
-worths-of-requires c κs = search needs
-
-margins-of-requires : tie.Need-margins-of-requires
-margins-of-requires c κs = search needs
-
-grade-of-requires : tie.Need-grade-of-requires
-grade-of-requires c κs = search needs
+assess-requires : tie.Need-assess-requires
+assess-requires c κs = search needs
 
 -- what the rounds hand out
 handed : (c : tie.After-divide-left)
@@ -114,14 +107,10 @@ handed c =
 
 returns : tie.Need-returns
 returns c =
-    let margined = c .before in
-    let valued = margined .before in
-    let at-handed = valued .before .before .before in
+    let at-assessed = c .before in
+    let at-handed = at-assessed .before .before .before in
     let s = start (at-cutter (at-handed .before .before) .before) in
-    let a = s .args in
-    outcome-accepted (s .pre) (c .grade-of .result) (at-handed .divide-left .result .bundles) (at-handed .divide-left .result .cutters) (valued .worths-of .result)
-    (c .grade-of .ensures ∙ ap (λ margins. gradeIn (a .agents) (a .items) (a .table) (a .own .shares) margins (at-handed .divide-left .result .bundles)) (margined .margins-of .ensures))
-    (valued .worths-of .ensures .0) (valued .worths-of .ensures .1) (handed at-handed .0) (handed at-handed .1)
+    outcome-accepted (s .pre) (at-assessed .assess .ensures) (handed at-handed .0) (handed at-handed .1)
 
 pub divide-shared-spec : {M : Type 1} → statement M
 divide-shared-spec =
@@ -136,7 +125,5 @@ divide-shared-spec =
     nothing-handed-out-requires
     all-items-requires-2
     divide-left-requires
-    worths-of-requires
-    margins-of-requires
-    grade-of-requires
+    assess-requires
     returns)

@@ -1,39 +1,32 @@
--- A table that is not refused: where its rounds start, what they hand out, and the grade of that. Assumes nothing.
-use mathlib.Core.Path.{_≡_, refl, sym, ap, ap₂, _∙_}
+-- A sheet that is not refused: where its rounds start, what they hand out, and what that comes to. Assumes nothing.
+use mathlib.Core.Path.{_≡_, refl, ap, _∙_}
 use mathlib.Core.List.{List, [], _∷_, map, List·Memᴰ as Mem, List·Memᴰ·head as here, List·Memᴰ·tail as there}
 use mathlib.Core.List.{Sublistᴰ as Sublist, Sublistᴰ·nil-sublist as nil-sublist}
 use Prim.Native.Nat.{ℕ, zero, suc, _-_, _^_, _≤_, _<_, min}
 use native.Mathlib.Omega.{arith}
-use lib.IntN.{pos}
 use lib.ListN.{length, getD, List·getD-map}
 use Rattle.lists.specs.Lists.{range, nth, padded}
-use Rattle.lists.proofs.ranges.Ranges.{length-range, range-sublist, nth-map-range}
+use Rattle.lists.proofs.ranges.Ranges.{length-range, range-sublist}
 use Rattle.lists.proofs.places.Places.{nth-padded-range}
-use Rattle.sheet.specs.Limits.{mostAgents, mostItems, setBits, CountsWithin, InUse}
-use Rattle.sheet.proofs.Limits.{counts-in-use}
+use Rattle.sheet.specs.Limits.{mostAgents, mostItems, setBits, CountsWithin}
 use Rattle.sheet.specs.Answers.{accepted}
 use Rattle.sheet.specs.Sets.{itemsOf, setOf}
-use Rattle.sheet.specs.Valuations.{value}
-use Rattle.sheet.specs.Tables.{valuation, profile}
-use Rattle.sheet.specs.Amounts.{SmallAmounts}
+use Rattle.sheet.specs.Contents.{sheetOf}
 use Rattle.sheet.proofs.sets.Sets.{items-setOf}
 use Rattle.sheet.proofs.sets.Ranges.{setOf-below}
-use Rattle.maximin.specs.Share.{maximinShare}
 use Rattle.cut.specs.Outcome.{placed}
 use Rattle.shares.specs.Outcome.{blankCut}
 use Rattle.shares.specs.declared.Cut.{Cut}
 use Rattle.shares.specs.declared.Outcome.{Outcome as SharesOutcome}
 use Rattle.shares.proofs.EachAgent.{cutAt, cuts-range}
-use Rattle.shares.proofs.Outcomes.{nth-shares-known}
-use Rattle.grades.specs.Grade.{ownValues, valueTo, grade, worthsIn, gradeIn}
-use Rattle.grades.proofs.InPlaces.{nth-worthsIn}
-use Rattle.margins.proofs.Stored.{nth-marginsStored}
-use Rattle.grades.proofs.Grades.{grade-cong, gradeIn-within}
+use Rattle.grades.specs.Assessment.{assessmentIn}
+use Rattle.grades.proofs.InPlaces.{assessmentIn-by-terms}
+use Rattle.grading.specs.Assessed.{assessed}
+use Rattle.grading.specs.declared.Assessed.{Assessed}
 use Rattle.serving.specs.Serving.{agentsIn}
 use Rattle.serving.proofs.round.AgentsLeft.{agentsIn-items}
 use Rattle.terms.specs.declared.Terms.{Terms}
-use Rattle.margins.specs.Margins.{margin, marginsStored}
-use Rattle.rounds.specs.Division.{instanceOfTable, allRounds, allocation, allocationMargins, divisionOf}
+use Rattle.rounds.specs.Division.{instanceOfTable, allRounds, allocation, divisionOf, divisionByTerms}
 use Rattle.rounds.proofs.Allocation.{sound, allocation-sublist}
 use Rattle.division.specs.Outcome.{outcome}
 use Rattle.division.specs.internal.Left.{instanceFrom, cutLeft, Ready}
@@ -62,7 +55,7 @@ module _ (k most : ℕ) (few : k ≤ most) (small : most ≤ mostItems) where
   pub upTo-items : itemsOf (setOf (range 1 k)) ≡ range 1 k
   upTo-items = items-setOf (range 1 k) (range-sublist 1 k setBits (omega arith))
 
-module _ {n m : ℕ} {table : List (List ℕ)} {terms : Terms} {allowance : ℕ} {own : SharesOutcome} (shared : IsShared n m table terms allowance own) where
+module _ {n m : ℕ} {table : List (List ℕ)} {terms : Terms} {allowance : ℕ} {own : SharesOutcome} (shared : IsShared (sheetOf n m table) terms allowance own) where
   -- the counts are within the limits
   counts : CountsWithin n m
   counts = shared .known .counts
@@ -105,7 +98,7 @@ module _ {n m : ℕ} {table : List (List ℕ)} {terms : Terms} {allowance : ℕ}
 
   -- the bundles of the division
   abbrev bundles : List (List ℕ)
-  bundles = allocation n m (instanceOfTable n m terms table)
+  bundles = allocation n m (instanceOfTable (sheetOf n m table) terms)
 
   -- the same as sets, in their places
   abbrev pub placedSets : List ℕ
@@ -113,7 +106,7 @@ module _ {n m : ℕ} {table : List (List ℕ)} {terms : Terms} {allowance : ℕ}
 
   -- the cutters in turn, in their places
   abbrev pub placedCutters : List ℕ
-  placedCutters = padded mostAgents 0 (map (λ r. r .cutter) (allRounds n m (instanceOfTable n m terms table)))
+  placedCutters = padded mostAgents 0 (map (λ r. r .cutter) (allRounds n m (instanceOfTable (sheetOf n m table) terms)))
 
   bundle-sublist : (i : ℕ) → Sublist (getD bundles i []) (range 1 m)
   bundle-sublist = getD-holds (λ b. Sublist b (range 1 m)) (nil-sublist (range 1 m)) bundles (allocation-sublist n m terms table)
@@ -128,57 +121,19 @@ module _ {n m : ℕ} {table : List (List ℕ)} {terms : Terms} {allowance : ℕ}
       let s = sound n m terms table (shared .allowed .at-most-standard) in
       rw (agentsIn-all, itemsOf-all, length-range 1 n, rounds-placed (shared .known) terms) (allotted-bundles s (counts .few), allotted-cutters-all s (counts .few))
 
-  in-use : InUse n m
-  in-use = counts-in-use counts
-
-  -- the marks in use
-  abbrev rows : List (List ℕ)
-  rows = profile n m table
-
-  -- the shares, agent after agent
-  abbrev shares : List ℕ
-  shares = map (maximinShare n) rows
-
   -- the bundle of an agent, read from its place
   bundle-read : (i : ℕ) → nth [] (map itemsOf placedSets) i ≡ nth [] bundles i
   unfolding itemsOf
   bundle-read i = List·getD-map itemsOf placedSets (i - 1) 0 ∙ items-at (i - 1)
 
-  module _ (worths : List ℕ) (same-worths : worths ≡ worthsIn n m table placedSets) (small-worths : SmallAmounts worths) where
-    -- the worth of an agent's bundle, and its margin
-    worth-read : (i : ℕ) → Mem i (range 1 n) → nth 0 worths i ≡ nth 0 (ownValues n rows bundles) i
-    worth-read i mi =
-        ap (λ l. nth 0 l i) same-worths
-        ∙ nth-worthsIn n m table placedSets in-use mi
-        ∙ ap (value (valuation rows i)) (bundle-read i)
-        ∙ sym (nth-map-range (λ k. valueTo rows bundles k k) 0 n mi)
-
-    margin-read : (i : ℕ) → Mem i (range 1 n)
-        → nth (pos 0) (marginsStored n terms worths (own .shares)) i ≡ nth (pos 0) (allocationMargins n m (instanceOfTable n m terms table)) i
-    margin-read i mi =
-        nth-marginsStored n terms worths (own .shares) (counts .few) (shared .allowed .small) small-worths (shared .known .small) mi
-        ∙ ap₂ (margin terms) (worth-read i mi) (nth-shares-known (shared .known) mi)
-        ∙ sym (nth-map-range (λ k. margin terms (nth 0 (ownValues n rows bundles) k) (nth 0 shares k)) (pos 0) n mi)
-
-    -- the grade of what the rounds hand out
-    grade-accepted : gradeIn n m table (own .shares) (marginsStored n terms worths (own .shares)) placedSets
-        ≡ grade n rows shares (allocationMargins n m (instanceOfTable n m terms table)) bundles
-    grade-accepted =
-        gradeIn-within n m table (own .shares) (marginsStored n terms worths (own .shares)) placedSets in-use
-        ∙ grade-cong n rows (own .shares) shares (marginsStored n terms worths (own .shares)) (allocationMargins n m (instanceOfTable n m terms table)) (map itemsOf placedSets) bundles
-        (λ i mi. nth-shares-known (shared .known) mi)
-        margin-read
-        (λ i mi. bundle-read i)
-
-  -- the code's answer, from what the rounds hand out
-  pub outcome-accepted : (g : ℕ) (sets cutters worths : List ℕ)
-      → g ≡ gradeIn n m table (own .shares) (marginsStored n terms worths (own .shares)) sets → worths ≡ worthsIn n m table sets → SmallAmounts worths
-      → sets ≡ placedSets → cutters ≡ placedCutters
-      → record { answer = Divided g; bundles = sets; shares = own .shares; cuts = own .cuts; cutters = cutters } ≡ outcome (accepted (divisionOf n m (instanceOfTable n m terms table)))
+  -- the code's answer, from what the rounds hand out and what that comes to
+  pub outcome-accepted : {r : Assessed} {sets cutters : List ℕ} → r ≡ assessed (assessmentIn (sheetOf n m table) terms (own .shares) sets) → sets ≡ placedSets → cutters ≡ placedCutters
+      → record { answer = Divided; grade = r .grade; worths = r .worths; bundles = sets; shares = own .shares; cuts = own .cuts; cutters = cutters }
+      ≡ outcome (accepted (divisionByTerms (sheetOf n m table) terms))
   unfolding divisionOf
-  outcome-accepted g sets cutters worths graded same-worths small-worths same-sets same-cutters =
-      let e : g ≡ grade n rows shares (allocationMargins n m (instanceOfTable n m terms table)) bundles =
-      graded
-      ∙ ap (gradeIn n m table (own .shares) (marginsStored n terms worths (own .shares))) same-sets
-      ∙ grade-accepted worths (same-worths ∙ ap (worthsIn n m table) same-sets) small-worths in
+  outcome-accepted told same-sets same-cutters =
+      let e =
+      told
+      ∙ ap (λ sets. assessed (assessmentIn (sheetOf n m table) terms (own .shares) sets)) same-sets
+      ∙ ap assessed (assessmentIn-by-terms (shared .known) terms (shared .allowed .small) placedSets bundles (λ i mi. bundle-read i)) in
       rw (e, same-sets, same-cutters, shared .known .each, shared .own-cuts)

@@ -5,6 +5,7 @@ use Prim.Native.Nat.{ℕ, _*_}
 use lib.Dec.{leb}
 use Rattle.lists.specs.Lists.{range}
 use Rattle.lists.specs.Sums.{total}
+use Rattle.sheet.specs.Contents.{sheetOf}
 use Rattle.sheet.proofs.valuing.Tables.{values-profile}
 use Rattle.maximin.specs.Share.{maximinPartition}
 use Rattle.shares.specs.Known.{SharesIn}
@@ -15,13 +16,13 @@ use Rattle.rounds.specs.Division.{instanceOfTable, allRounds}
 use Rattle.rounds.proofs.round.Congruence.{Alike, rounds-cong}
 use Rattle.division.specs.internal.Left.{instanceFrom}
 
-module _ {n m : ℕ} {table : List (List ℕ)} {shares : List ℕ} (known : SharesIn n m table shares) where
-  alike-placed : (terms : Terms) → Alike (instanceFrom terms table shares) (instanceOfTable n m terms table) (range 1 n) (range 1 m)
+module _ {n m : ℕ} {table : List (List ℕ)} {shares : List ℕ} (known : SharesIn (sheetOf n m table) shares) where
+  alike-placed : (terms : Terms) → Alike (instanceFrom terms table shares) (instanceOfTable (sheetOf n m table) terms) (range 1 n) (range 1 m)
   alike-placed terms =
       record {
         same-suiting = λ agent i part s. ap₂ (λ share values. leb (terms .top * share) (terms .bottom * total values)) (nth-shares-known known i) (sym (values-profile n m table i s));
         same-cuts = λ agent i k part s. ap (maximinPartition k) (sym (values-profile n m table i s));
       }
 
-  pub rounds-placed : (terms : Terms) → rounds (instanceFrom terms table shares) n (range 1 n) (range 1 m) ≡ allRounds n m (instanceOfTable n m terms table)
+  pub rounds-placed : (terms : Terms) → rounds (instanceFrom terms table shares) n (range 1 n) (range 1 m) ≡ allRounds n m (instanceOfTable (sheetOf n m table) terms)
   rounds-placed terms = rounds-cong n (range 1 n) (range 1 m) (alike-placed terms)

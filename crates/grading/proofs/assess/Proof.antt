@@ -74,7 +74,7 @@ grade-by-requires : tie.Need-grade-by-requires
 grade-by-requires c κs = search needs
 
 returns : tie.Need-returns
-returns c = (made (worths-told c) (margins-told c) (grade-told c), amounts c .compare .ensures .1)
+returns c = made (worths-told c) (margins-told c) (grade-told c)
   where
     made : {worths worths′ : List ℕ} {margins margins′ : List ℤ} {g g′ : ℕ} → worths ≡ worths′ → margins ≡ margins′ → g ≡ g′
         → _≡_ {A = Assessed} (record { worths = worths; margins = margins; grade = g }) (record { worths = worths′; margins = margins′; grade = g′ })
