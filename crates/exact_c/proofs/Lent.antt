@@ -5,6 +5,7 @@ use mathlib.Core.List.{List}
 use Prim.Native.Nat.{ℕ}
 use lib.ListN.{length}
 use Rattle.sheet.specs.Answers.{Answer, refused, accepted, numberOf, after}
+use Rattle.sheet.specs.Contents.{Contents}
 use Rattle.writing.specs.declared.Answer as declared
 use Rattle.reply.specs.Stored.{numberAnswered, lengthAnswered}
 use Rattle.reply.proofs.Stored.{told}
@@ -16,11 +17,11 @@ use Rattle.exact_search.proofs.Outcomes.{refused-answered, none-answered, none-
 use Rattle.sheet_to_exact.specs.Showing.{exactFrom, Shown}
 use Rattle.exact_c.specs.Lent.{storeFound, storeBundles, TableStored, TextStored}
 
-module _ {n m : ℕ} {table : List (List ℕ)} {o : Outcome} (s : Searched n m table o) {oldFound : ℕ} {oldBundles : List ℕ} where
+module _ {sheet : Contents} {o : Outcome} (s : Searched sheet o) {oldFound : ℕ} {oldBundles : List ℕ} where
   -- where the search answers a, what a says is stored
-  stored-of : (a : Answer Bool) → searching n m table ≡ a → {newFound : ℕ} {newBundles : List ℕ}
+  stored-of : (a : Answer Bool) → searching sheet ≡ a → {newFound : ℕ} {newBundles : List ℕ}
       → newFound ≡ after storeFound a oldFound → newBundles ≡ after (storeBundles (s .bundles)) a oldBundles
-      → TableStored n m table oldFound oldBundles (numberOf a) newFound newBundles
+      → TableStored sheet oldFound oldBundles (numberOf a) newFound newBundles
   stored-of a e found sets =
       record {
         bundles = s .bundles;
@@ -30,16 +31,16 @@ module _ {n m : ℕ} {table : List (List ℕ)} {o : Outcome} (s : Searched n m t
         bundles-stored = sets ∙ ap (λ b. after (storeBundles (s .bundles)) b oldBundles) (sym e);
       }
 
-  -- a refused table answers its number, and the places keep their content
-  pub refusal-stored : (number : ℕ) → o .answer ≡ Refused number → TableStored n m table oldFound oldBundles number oldFound oldBundles
+  -- a refused sheet answers its number, and the places keep their content
+  pub refusal-stored : (number : ℕ) → o .answer ≡ Refused number → TableStored sheet oldFound oldBundles number oldFound oldBundles
   refusal-stored number e = stored-of (refused number) (refused-answered s number e) refl refl
 
   -- none answers 0, and zeros are stored
-  pub none-stored : o .answer ≡ None → TableStored n m table oldFound oldBundles 0 0 (o .bundles)
+  pub none-stored : o .answer ≡ None → TableStored sheet oldFound oldBundles 0 0 (o .bundles)
   none-stored e = stored-of (accepted false) (none-answered s e) refl (none-sets s e)
 
   -- an exact division answers 0, and 1 and its sets are stored
-  pub found-stored : o .answer ≡ Found → TableStored n m table oldFound oldBundles 0 1 (o .bundles)
+  pub found-stored : o .answer ≡ Found → TableStored sheet oldFound oldBundles 0 1 (o .bundles)
   found-stored e = stored-of (accepted true) (found-answered s e) refl (found-sets s e)
 
 -- the number of the code's answer is returned, and the length of its text is stored

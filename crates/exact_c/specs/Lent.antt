@@ -8,6 +8,7 @@ use lib.ListN.{length}
 use Rattle.lists.specs.Lists.{bit, padded, zeros}
 use Rattle.sheet.specs.Limits.{mostAgents}
 use Rattle.sheet.specs.Answers.{numberOf, after}
+use Rattle.sheet.specs.Contents.{Contents}
 use Rattle.sheet.specs.Sets.{setOf}
 use Rattle.writing.specs.Filled.{filled}
 use Rattle.writing.specs.Answered.{lengthStored}
@@ -23,15 +24,15 @@ abbrev pub storeBundles : List (List ℕ) → Bool → List ℕ → List ℕ
 storeBundles bundles true old = padded mostAgents 0 (map setOf bundles)
 storeBundles bundles false old = zeros mostAgents
 
--- what is promised of the number answered to a table of n agents and m items, and of the places lent for `found` and `bundles`, that held the
--- old content and then hold the new
-pub record TableStored (n m : ℕ) (table : List (List ℕ)) (oldFound : ℕ) (oldBundles : List ℕ) (number newFound : ℕ) (newBundles : List ℕ) : Type 0 where
+-- what is promised of the number answered to a sheet, and of the places lent for `found` and `bundles`, that held the old content and then
+-- hold the new
+pub record TableStored (sheet : Contents) (oldFound : ℕ) (oldBundles : List ℕ) (number newFound : ℕ) (newBundles : List ℕ) : Type 0 where
   -- the bundles that are shown where there is an exact division: "Which of several it shows is left free"
   pub bundles : List (List ℕ)
-  pub may-show : MayShow n m table bundles
-  pub answered : number ≡ numberOf (searching n m table)
-  pub found-stored : newFound ≡ after storeFound (searching n m table) oldFound
-  pub bundles-stored : newBundles ≡ after (storeBundles bundles) (searching n m table) oldBundles
+  pub may-show : MayShow sheet bundles
+  pub answered : number ≡ numberOf (searching sheet)
+  pub found-stored : newFound ≡ after storeFound (searching sheet) oldFound
+  pub bundles-stored : newBundles ≡ after (storeBundles bundles) (searching sheet) oldBundles
 
 -- what is promised of the number answered to a text, and of the lent buffer and the place lent for its length
 pub record TextStored (text old : List ℕ) (oldLength number : ℕ) (new : List ℕ) (newLength : ℕ) : Type 0 where

@@ -1,6 +1,8 @@
 // The search for an exact division for callers in C or Rust, by C's calling convention.
+ghost use Rattle.sheet.specs.Contents.{sheetOf};
 ghost use Rattle.exact_c.specs.Lent.{TableStored, TextStored};
 use sheet::Sets;
+use sheet::Sheet;
 use sheet::Table;
 
 // Searches the table of `agents` agents (yards) for an exact division. Answers 0 and stores in `found` 1 and in `bundles` each agent's bundle as
@@ -14,9 +16,9 @@ pub extern "C" fn exact_table(
     found: &mut u8,
     bundles: &mut Sets,
 ) -> u8
-    ensures { λ r. ⌜ TableStored agents items (now (table .entry)) (now (found .entry)) (now (bundles .entry)) r (now (found .exit)) (now (bundles .exit)) ⌝ }
+    ensures { λ r. ⌜ TableStored (sheetOf agents items (now (table .entry))) (now (found .entry)) (now (bundles .entry)) r (now (found .exit)) (now (bundles .exit)) ⌝ }
 {
-    let outcome = exact_search::find_exact(*table, agents, items);
+    let outcome = exact_search::find_exact(*table, Sheet { agents, items });
     let answer = outcome.answer;
     let sets = outcome.bundles;
     match answer {
