@@ -1,4 +1,4 @@
--- An allocation is exact exactly where it passes the test for grade 3. Assumes nothing.
+-- An allocation is exact exactly where it passes the test for grade 3, which is the same by all terms. Assumes nothing.
 use mathlib.Core.Path.{_≡_, sym, ap, ap₂, _∙_}
 use mathlib.Core.List.{List, [], map, List·Memᴰ as Mem}
 use Prim.Native.Nat.{ℕ}
@@ -17,7 +17,9 @@ use Rattle.sheet.proofs.valuing.Tables.{itemValue-profile, profile-agree}
 use Rattle.maximin.specs.Share.{maximinShare}
 use Rattle.shares.proofs.Profile.{nth-shares}
 use Rattle.grades.specs.Grade.{maximinFair}
-use Rattle.grades.specs.Scale.{passes}
+use Rattle.terms.specs.Terms.{termsFor}
+use Rattle.terms.specs.declared.Terms.{Terms}
+use Rattle.grades.specs.Scale.{passesByTerms}
 use Rattle.exact_division.specs.Exact.{isExact}
 
 module _ (sheet : Contents) (bundles : List (List ℕ)) (allocates : Allocates (sheet .agents) (sheet .items) bundles) where
@@ -30,14 +32,14 @@ module _ (sheet : Contents) (bundles : List (List ℕ)) (allocates : Allocates (
       let b = allocates .no-other-item (nth [] bundles agent) (nth-mem [] bundles (sheet .agents) (allocates .bundle-each) ma) k mk in
       itemValue-profile (sheet .agents) (sheet .items) (sheet .table) ma k (in-range 1 (sheet .items) k (b .0) (omega arith))))
 
-  pub isExact-passes : isExact sheet bundles ≡ passes (sheet .agents) (sheet .items) (sheet .table) bundles 3
+  pub isExact-passes : (terms : Terms) → isExact sheet bundles ≡ passesByTerms sheet terms bundles 3
   unfolding isExact maximinFair
-  isExact-passes = all-cong _ _ (range 1 (sheet .agents)) (λ agent ma. ap₂ leb (sym (nth-shares (sheet .agents) (sheet .items) (sheet .table) ma)) (sym (bundle-value-profile agent ma)))
+  isExact-passes terms = all-cong _ _ (range 1 (sheet .agents)) (λ agent ma. ap₂ leb (sym (nth-shares (sheet .agents) (sheet .items) (sheet .table) ma)) (sym (bundle-value-profile agent ma)))
 
 -- only the marks of the places in use count
 pub isExact-agree : (n m : ℕ) (table table′ bundles : List (List ℕ)) → Allocates n m bundles → AgreeInUse n m table table′
     → isExact (sheetOf n m table) bundles ≡ isExact (sheetOf n m table′) bundles
 isExact-agree n m table table′ bundles allocates agree =
-    isExact-passes (sheetOf n m table) bundles allocates
+    isExact-passes (sheetOf n m table) bundles allocates (termsFor n)
     ∙ ap (λ rows. maximinFair n rows (map (maximinShare n) rows) bundles) (profile-agree n m table table′ agree)
-    ∙ sym (isExact-passes (sheetOf n m table′) bundles allocates)
+    ∙ sym (isExact-passes (sheetOf n m table′) bundles allocates (termsFor n))

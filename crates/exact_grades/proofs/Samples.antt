@@ -11,6 +11,6 @@ use Rattle.exact_division.specs.Exact.{isExact, exactExists}
 use Rattle.exact_division.specs.Search.{searching}
 
 -- sheets a to f and i, and the sheet of grade 2 behind them; the box's division of c is graded 4
-pub starred-have-one : map (λ s. searching (s .agents) (s .items) (s .rows)) samples ≡ map (λ s. accepted true) samples
+pub starred-have-one : map (λ s. searching (s .sheet)) samples ≡ map (λ s. accepted true) samples
 unfolding starred searching exactExists isExact sharing sharesCovered profile maximinShare
 starred-have-one = refl
