@@ -6,6 +6,7 @@ use mathlib.Core.Option.{Option, none, some}
 use Prim.Native.Nat.{ℕ}
 use lib.IntN.{ℤ, pos}
 use Rattle.sheet.specs.Tables.{profile}
+use Rattle.sheet.specs.Contents.{Contents, sheetOf}
 use Rattle.sheet.specs.Answers.{Answer, refused, accepted}
 use Rattle.maximin.specs.Share.{maximinShare, maximinPartition}
 use Rattle.shares.specs.Shares.{sharesCovered, sharing}
@@ -16,11 +17,11 @@ use Rattle.sheet.specs.Sets.{itemsOf}
 use Rattle.division_reading.specs.Stated.{StatedLine, Stated}
 use Rattle.division_reading.specs.declared.Stated as stated
 use Rattle.stated_truth.specs.Truth.{bundlesAndCuts, ofSheet, eachInOne, lineTrue, figuresTrue}
-use Rattle.stated_truth.specs.Judging.{judging}
+use Rattle.stated_truth.specs.Judging.{judgingBy, judging}
 use Rattle.stated_truth.specs.Lines.{noLine, statedIn}
 
-abbrev rows : List (List ℕ)
-rows = (1 ∷ 1 ∷ 1 ∷ 1 ∷ []) ∷ (4 ∷ 4 ∷ 3 ∷ 1 ∷ []) ∷ (1 ∷ 1 ∷ 1 ∷ 1 ∷ []) ∷ []
+abbrev sheetC : Contents
+sheetC = sheetOf 3 4 ((1 ∷ 1 ∷ 1 ∷ 1 ∷ []) ∷ (4 ∷ 4 ∷ 3 ∷ 1 ∷ []) ∷ (1 ∷ 1 ∷ 1 ∷ 1 ∷ []) ∷ [])
 
 -- a cut of the four items into three bundles: the first two items together, or the last two
 abbrev firstTogether : List (List ℕ)
@@ -69,8 +70,8 @@ samples =
     ∷ record { stated = divided 3 (line (1 ∷ 2 ∷ []) 2 1 firstTogether); answer = refused 13 }
     ∷ []
 
-pub samples-judged : map (λ s. judging 3 4 rows (s .stated)) samples ≡ map (λ s. s .answer) samples
-unfolding samples judging sharing sharesCovered bundlesAndCuts ofSheet eachInOne figuresTrue lineTrue grade envyFree proportional maximinFair profile maximinShare maximinPartition termsFor largestOdd margin
+pub samples-judged : map (λ s. judging sheetC (s .stated)) samples ≡ map (λ s. s .answer) samples
+unfolding samples judgingBy sharing sharesCovered bundlesAndCuts ofSheet eachInOne figuresTrue lineTrue grade envyFree proportional maximinFair profile maximinShare maximinPartition termsFor largestOdd margin
 samples-judged = refl
 
 -- the same as the code has it, with a set for the bundle of agent 1
@@ -89,6 +90,6 @@ handed set =
     }
 
 -- items 1 and 2; 1, 2 and 5, and 1, 2 and 16, which are not on the sheet; item 1 alone
-pub sets-judged : map (λ set. judging 3 4 rows (statedIn 3 (handed set))) (3 ∷ 19 ∷ 32771 ∷ 1 ∷ []) ≡ accepted margins ∷ refused 11 ∷ refused 11 ∷ refused 12 ∷ []
-unfolding judging sharing sharesCovered bundlesAndCuts ofSheet eachInOne figuresTrue lineTrue grade envyFree proportional maximinFair profile maximinShare maximinPartition termsFor largestOdd margin itemsOf
+pub sets-judged : map (λ set. judging sheetC (statedIn 3 (handed set))) (3 ∷ 19 ∷ 32771 ∷ 1 ∷ []) ≡ accepted margins ∷ refused 11 ∷ refused 11 ∷ refused 12 ∷ []
+unfolding judgingBy sharing sharesCovered bundlesAndCuts ofSheet eachInOne figuresTrue lineTrue grade envyFree proportional maximinFair profile maximinShare maximinPartition termsFor largestOdd margin itemsOf
 sets-judged = refl
