@@ -14,8 +14,11 @@ use Rattle.lists.proofs.places.Defaults.{getD-default}
 use Rattle.lists.proofs.members.Tests.{all-cong, all-nth}
 use Rattle.sheet.specs.Limits.{mostAgents}
 use Rattle.sheet.specs.Sets.{itemsOf}
-use Rattle.shares.specs.Shares.{shareOf}
-use Rattle.grades.specs.Scale.{gradeByTable}
+use Rattle.sheet.specs.Contents.{Contents}
+use Rattle.shares.specs.Known.{SharesIn}
+use Rattle.shares.proofs.Outcomes.{nth-shares-in}
+use Rattle.terms.specs.declared.Terms.{Terms}
+use Rattle.grades.specs.Scale.{gradeByTerms}
 use Rattle.division_reading.specs.declared.StatedLine as line
 use Rattle.stated_truth.specs.Truth.{bundlesOf, lineOf, noneStated, bundlesAndCuts, lineTrue, figuresTrue}
 use Rattle.stated_truth.specs.Lines.{noLine, statedLine, statedOf, cutsPass, setsAndCuts, linesTrue, figuresTrueBy}
@@ -61,16 +64,17 @@ module _ (n grade : ℕ) (lines : List line.StatedLine) where
       unfolding bundlesAndCuts
       test-stated = ap₂ _&&_ (ap test bundles-stated) cuts-stated
 
-    -- the worths, the shares and the cuts, by the shares of the table
-    lines-stated : (m : ℕ) (table : List (List ℕ)) (shares : List ℕ) → ((i : ℕ) → Mem i (range 1 n) → nth 0 shares i ≡ shareOf n m table i)
-        → all (λ i. lineTrue n m table i (lineOf (statedOf n grade lines) i)) (range 1 n) ≡ linesTrue n m table shares lines
-    unfolding lineTrue
-    lines-stated m table shares each =
-        all-cong _ _ (range 1 n) (λ i mi. rw (lineOf-stated mi, each i mi))
+-- the figures, by the shares of a sheet
+module _ (sheet : Contents) {shares : List ℕ} (known : SharesIn sheet shares) (grade : ℕ) (lines : List line.StatedLine) (places : length lines ≡ mostAgents) where
+  -- the worths, the shares and the cuts
+  lines-stated : all (λ i. lineTrue sheet i (lineOf (statedOf (sheet .agents) grade lines) i)) (range 1 (sheet .agents))
+      ≡ linesTrue (sheet .agents) (sheet .items) (sheet .table) shares lines
+  unfolding lineTrue
+  lines-stated =
+      all-cong _ _ (range 1 (sheet .agents)) (λ i mi. rw (lineOf-stated (sheet .agents) grade lines (known .counts .few) places mi, nth-shares-in known mi))
 
-    -- the test of refusal 13
-    pub figures-stated : (m : ℕ) (table : List (List ℕ)) (shares : List ℕ) → ((i : ℕ) → Mem i (range 1 n) → nth 0 shares i ≡ shareOf n m table i)
-        → (g : ℕ) → gradeByTable n m table (bundlesOf (statedOf n grade lines)) ≡ g
-        → figuresTrue n m table (statedOf n grade lines) ≡ figuresTrueBy n m table shares lines g grade
-    unfolding figuresTrue
-    figures-stated m table shares each g is = ap₂ _&&_ (lines-stated m table shares each) (ap (eqb grade) is)
+  -- the test of refusal 13
+  pub figures-stated : (terms : Terms) (g : ℕ) → gradeByTerms sheet terms (bundlesOf (statedOf (sheet .agents) grade lines)) ≡ g
+      → figuresTrue sheet terms (statedOf (sheet .agents) grade lines) ≡ figuresTrueBy (sheet .agents) (sheet .items) (sheet .table) shares lines g grade
+  unfolding figuresTrue
+  figures-stated terms g is = ap₂ _&&_ lines-stated (ap (eqb grade) is)

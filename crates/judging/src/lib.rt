@@ -3,17 +3,17 @@ ghost use mathlib.Core.Path.{_≡_};
 ghost use mathlib.Core.List.{map};
 ghost use lib.ListN.{length};
 ghost use Rattle.sheet.specs.Limits.{mostAgents};
+ghost use Rattle.sheet.specs.Contents.{contents};
 ghost use Rattle.sheet.specs.Answers.{refused};
 ghost use Rattle.shares.specs.Known.{SharesIn};
-ghost use Rattle.stated_truth.specs.Judging.{judging};
+ghost use Rattle.terms.specs.Allowed.{SmallTerms};
+ghost use Rattle.stated_truth.specs.Judging.{judgingBy, judging};
 ghost use Rattle.stated_truth.specs.Lines.{statedIn};
 ghost use Rattle.judging.specs.Outcome.{outcome};
 use division_reading::Stated;
 use division_reading::StatedLine;
-use grading::grade_of;
-use grading::worths_of;
+use grading::assess;
 use margins::Margins;
-use margins::margins_of;
 use shares::share_each;
 use sheet::Sets;
 use sheet::Sheet;
@@ -23,6 +23,7 @@ use sheet::both;
 use stated_figures::figures_true;
 use stated_items::Test;
 use stated_items::all_pass;
+use terms::Terms;
 use terms::terms_for;
 
 // The number of the reason why the division is refused, or that it is accepted.
@@ -61,24 +62,25 @@ fn bundles_of(lines: [StatedLine; Sheet::AGENTS]) -> Sets
     bundles
 }
 
-// The answer on a division of a table that is not refused, by the shares of its agents.
+// The answer on a division of a table that is not refused, by the terms and by the shares of its agents.
 fn judge_shared(
     table: Table,
-    agents: usize,
-    items: usize,
+    sheet: Sheet,
+    terms: Terms,
     shares: Amounts,
     stated: Stated,
 ) -> Outcome
-    requires { ⌜ SharesIn agents items table shares ⌝ }
-    ensures { λ r. ⌜ r ≡ outcome (judging agents items table (statedIn agents stated)) ⌝ }
+    requires { ⌜ SharesIn (contents sheet table) shares × SmallTerms terms ⌝ }
+    ensures { λ r. ⌜ r ≡ outcome (judgingBy (contents sheet table) terms (statedIn (sheet .agents) stated)) ⌝ }
 {
-    let terms = terms_for(agents);
+    let agents = sheet.agents;
+    let items = sheet.items;
     let read = stated.read;
     let lines = stated.lines;
     let bundles = bundles_of(lines);
-    let worths = worths_of(table, agents, items, bundles);
-    let margins = margins_of(agents, terms, worths, shares);
-    let grade = grade_of(table, agents, items, shares, margins, bundles);
+    let assessed = assess(table, sheet, terms, shares, bundles);
+    let margins = assessed.margins;
+    let grade = assessed.grade;
     let named = all_pass(Test::OfSheet, bundles, lines, agents, items);
     let once = all_pass(Test::EachInOne, bundles, lines, agents, items);
     let correct = figures_true(table, agents, items, shares, lines, grade, stated.grade);
@@ -98,17 +100,20 @@ fn judge_shared(
     }
 }
 
-// The answer on a division of a table of marks with these counts. Refused as the table's shares are; else with 11 where the division is
-// not read or names an item that is not on the sheet, with 12 where an item is in no bundle or in two, of the division or of a cut, and
+// The answer on a division of a sheet, by the terms of document 01. Refused as the shares of the sheet are; else with 11 where the division
+// is not read or names an item that is not on the sheet, with 12 where an item is in no bundle or in two, of the division or of a cut, and
 // with 13 where a worth, a share, a cut or the grade is false.
-pub fn judge(table: Table, agents: usize, items: usize, stated: Stated) -> Outcome
-    ensures { λ r. ⌜ r ≡ outcome (judging agents items table (statedIn agents stated)) ⌝ }
+pub fn judge(table: Table, sheet: Sheet, stated: Stated) -> Outcome
+    ensures { λ r. ⌜ r ≡ outcome (judging (contents sheet table) (statedIn (sheet .agents) stated)) ⌝ }
 {
-    let own = share_each(table, agents, items);
+    let own = share_each(table, sheet);
     let answer = own.answer;
     let shares = own.shares;
     match answer {
         shares::Answer::Refused(number) => refuse(number),
-        shares::Answer::Shared => judge_shared(table, agents, items, shares, stated),
+        shares::Answer::Shared => {
+            let terms = terms_for(sheet.agents);
+            judge_shared(table, sheet, terms, shares, stated)
+        }
     }
 }
