@@ -1,13 +1,13 @@
 -- What the outcome of a sheet at the front of a text says of the answer that follows it. Assumes nothing.
-use mathlib.Core.Path.{_≡_, refl, sym, ap, _∙_, subst}
+use mathlib.Core.Path.{_≡_, refl, sym, ap, ap₂, _∙_}
 use mathlib.Core.List.{List}
 use Prim.Native.Nat.{ℕ}
 use native.Mathlib.Omega.{arith}
-use Rattle.sheet.specs.Limits.{mostAgents, mostItems, CountsWithin}
+use Rattle.sheet.specs.Limits.{CountsWithin}
 use Rattle.sheet.specs.Answers.{Answer, refused, accepted}
-use Rattle.sheet.proofs.Limits.{within-bounds}
+use Rattle.sheet.proofs.Limits.{counts-within}
 use Rattle.sheet.specs.declared.Sheet.{Sheet}
-use Rattle.sheet.specs.Contents.{Contents}
+use Rattle.sheet.specs.Contents.{Contents, contents}
 use Rattle.tokens.specs.Tokens.{Token}
 use Rattle.tokeniser.specs.Places.{tokensAt}
 use Rattle.reading.specs.Reading.{sheetAlone, readingFront}
@@ -15,7 +15,7 @@ use Rattle.reading.specs.Outcome.{outcome, tableIn, frontFrom}
 use Rattle.reading.specs.declared.Answer.the-variants.{Refused, Accepted}
 use Rattle.reading.specs.declared.Front.{Front}
 use Rattle.tokeniser.specs.declared.Cursor.{Cursor}
-use Rattle.reading.proofs.Composed.{HasTable, accepted-has-table}
+use Rattle.reading.proofs.Composed.{accepted-contents}
 use Rattle.reading.proofs.AtFront.{front-passes}
 use Rattle.reading.proofs.FrontPlace.{front-outcome, front-leaves}
 
@@ -23,25 +23,18 @@ use Rattle.reading.proofs.FrontPlace.{front-outcome, front-leaves}
 pub readingFront-counts : (text : List ℕ) (c : Contents) (behind : List Token) → readingFront text ≡ accepted (c, behind) → CountsWithin (c .agents) (c .items)
 readingFront-counts text c behind e =
     let a = front-passes text c behind e in
-    let agents = within-bounds mostAgents (c .agents) (a .agents-within) in
-    let items = within-bounds mostItems (c .items) (a .items-within) in
-    record { some = agents .0; few = agents .1; some-items = items .0; few-items = items .1 }
+    counts-within (c .agents) (c .items) (a .agents-within) (a .items-within)
 
 refused-of : (a : Answer (Contents × List Token)) (number : ℕ) → outcome (sheetAlone a) .answer ≡ Refused number → a ≡ refused number
 refused-of (refused k) number e = cc
 refused-of (accepted p) number e = cc
 
--- a sheet that is accepted, with the counts and the table that were read, and what stands behind it
-pub record FrontRead (text : List ℕ) (place : Cursor) (a : Answer (Contents × List Token)) (counts : Sheet) (table : List (List ℕ)) : Type 0 where
-  pub sheet : Contents
-  pub is-accepted : a ≡ accepted (sheet, tokensAt text place)
-  pub has-table : HasTable counts table sheet
-
-accepted-of : (s : List ℕ) (place : Cursor) (a : Answer (Contents × List Token)) (counts : Sheet) → outcome (sheetAlone a) .answer ≡ Accepted counts
-    → ((sheet : Contents) (ts : List Token) → a ≡ accepted (sheet, ts) → tokensAt s place ≡ ts) → FrontRead s place a counts (tableIn (outcome (sheetAlone a) .rows))
-accepted-of s place (refused k) counts e left = let z : _≡_ {A = ℕ} 0 1 = cc in absurd (omega arith)
-accepted-of s place (accepted (sheet, ts)) counts e left =
-    record { sheet = sheet; is-accepted = sym (ap (λ t. accepted (sheet, t)) (left sheet ts refl)); has-table = accepted-has-table sheet e }
+-- a sheet that is accepted is what was read, with what stands behind it
+accepted-of : (s : List ℕ) (place : Cursor) (a : Answer (Contents × List Token)) {counts : Sheet} → outcome (sheetAlone a) .answer ≡ Accepted counts
+    → ((sheet : Contents) (ts : List Token) → a ≡ accepted (sheet, ts) → tokensAt s place ≡ ts)
+    → a ≡ accepted (contents counts (tableIn (outcome (sheetAlone a) .rows)), tokensAt s place)
+accepted-of s place (refused k) e left = let z : _≡_ {A = ℕ} 0 1 = cc in absurd (omega arith)
+accepted-of s place (accepted (sheet, ts)) e left = ap₂ (λ c t. accepted (c, t)) (accepted-contents sheet e) (sym (left sheet ts refl))
 
 module _ (text : List ℕ) {front : Front} (read : front ≡ frontFrom text (readingFront text)) where
   outcome-read : front .outcome ≡ outcome (sheetAlone (readingFront text))
@@ -55,13 +48,11 @@ module _ (text : List ℕ) {front : Front} (read : front ≡ frontFrom text (rea
   refused-front {number} e = refused-of (readingFront text) number (sym (ap (λ o. o .answer) outcome-read) ∙ e)
 
   module _ {counts : Sheet} {table : List (List ℕ)} (e : front .outcome .answer ≡ Accepted counts) (rows : table ≡ tableIn (front .outcome .rows)) where
-    pub accepted-front : FrontRead text (front .next) (readingFront text) counts table
+    pub accepted-front : readingFront text ≡ accepted (contents counts table, tokensAt text (front .next))
     accepted-front =
-        subst (FrontRead text (front .next) (readingFront text) counts) (sym (rows ∙ ap (λ o. tableIn (o .rows)) outcome-read))
-        (accepted-of text (front .next) (readingFront text) counts (sym (ap (λ o. o .answer) outcome-read) ∙ e) tokens-left)
+        accepted-of text (front .next) (readingFront text) (sym (ap (λ o. o .answer) outcome-read) ∙ e) tokens-left
+        ∙ ap (λ t. accepted (contents counts t, tokensAt text (front .next))) (sym (rows ∙ ap (λ o. tableIn (o .rows)) outcome-read))
 
     -- the counts are within the limits
     pub front-counts : CountsWithin (counts .agents) (counts .items)
-    front-counts =
-        let told = accepted-front in
-        rw (told .has-table .agents-are, told .has-table .items-are) at (readingFront-counts text (told .sheet) (tokensAt text (front .next)) (told .is-accepted))
+    front-counts = readingFront-counts text (contents counts table) (tokensAt text (front .next)) accepted-front

@@ -9,6 +9,7 @@ use Rattle.sheet.specs.Answers.{NeverRefused, refused}
 use Rattle.sheet.proofs.Refusals.{never-accepted, never-require, never-andThen}
 use Rattle.reading.specs.Reading.{readingFront}
 use Rattle.reading.proofs.Refusals.{readingFront-refusals}
+use Rattle.terms.specs.Terms.{termsOf}
 use Rattle.division_reading.specs.Grammar.{divisionText}
 use Rattle.stated_truth.proofs.Verdicts.{judging-refusals}
 use Rattle.sheet_to_judgement.specs.AcceptedText.{acceptedText}
@@ -19,7 +20,7 @@ module _ (text : List ℕ) (room : ℕ) where
   unfolding textJudged
   text-refusals =
       never-andThen 14 (readingFront text) _ (readingFront-refusals 14 (omega arith) text) (λ (sheet, behind).
-      judging-refusals (sheet .agents) (sheet .items) (sheet .table) (divisionText (sheet .agents) (sheet .items) behind) 14 (omega arith))
+      judging-refusals sheet (termsOf sheet) (divisionText (sheet .agents) (sheet .items) behind) 14 (omega arith))
 
   judgement-refusals : NeverRefused 14 (judgementFrom text room)
   unfolding judgementFrom

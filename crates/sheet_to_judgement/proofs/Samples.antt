@@ -7,7 +7,7 @@ use Prim.Native.Nat.{ℕ}
 use lib.IntN.{ℤ, pos}
 use Rattle.sheet.specs.Answers.{accepted}
 use Rattle.sheet.specs.Tables.{profile}
-use Rattle.sheet.specs.Contents.{Contents}
+use Rattle.sheet.specs.Contents.{Contents, sheetOf}
 use Rattle.text.specs.Bytes.{bytes}
 use Rattle.text.specs.Decimal.{digitsIn, decimal, signed}
 use Rattle.tokens.specs.Lines.{onFirst, lines, beforeRemark}
@@ -25,14 +25,14 @@ use Rattle.grades.specs.Grade.{envyFree, proportional, maximinFair, grade}
 use Rattle.division_reading.specs.Stated.{StatedLine, Stated}
 use Rattle.division_reading.specs.Grammar as division
 use Rattle.stated_truth.specs.Truth.{bundlesAndCuts, ofSheet, eachInOne, lineTrue, figuresTrue}
-use Rattle.stated_truth.specs.Judging.{judging}
+use Rattle.stated_truth.specs.Judging.{judgingBy, judging}
 use Rattle.sheet_to_judgement.specs.AcceptedText.{acceptedText, longestAccepted}
 use Rattle.sheet_to_judgement.specs.TextJudged.{textJudged, judgementFrom}
 use Rattle.sheet_to_judgement.specs.SampleTexts.{divisionC, sheetCAndDivision}
 
 -- what the sheet carries, and what the division states
 abbrev contentsC : Contents
-contentsC = record { agents = 3; items = 4; table = tableOf ((1 ∷ 1 ∷ 1 ∷ 1 ∷ []) ∷ (4 ∷ 4 ∷ 3 ∷ 1 ∷ []) ∷ (1 ∷ 1 ∷ 1 ∷ 1 ∷ []) ∷ []) }
+contentsC = sheetOf 3 4 (tableOf ((1 ∷ 1 ∷ 1 ∷ 1 ∷ []) ∷ (4 ∷ 4 ∷ 3 ∷ 1 ∷ []) ∷ (1 ∷ 1 ∷ 1 ∷ 1 ∷ []) ∷ []))
 
 abbrev line : List ℕ → ℕ → ℕ → List (List ℕ) → StatedLine
 line bundle worth share cut = record { bundle = bundle; worth = worth; share = share; cut = cut }
@@ -59,8 +59,8 @@ division-c-read : division.divisionText 3 4 (tokens divisionC) ≡ some statedC
 unfolding division.divisionText division.head division.amounts division.yardLine division.bundleInTurn division.bundleAfter division.risingItems sheet.endLine numbers.numberAfter numbers.number numbers.digitsAfter numbers.isNumber forms.inTurn forms.follow onFirst lines beforeRemark extended words lineTokens tokens flatMap
 division-c-read = refl
 
-division-c-judged : judging 3 4 (contentsC .table) (some statedC) ≡ accepted marginsC
-unfolding judging sharing sharesCovered bundlesAndCuts ofSheet eachInOne figuresTrue lineTrue grade envyFree proportional maximinFair profile maximinShare maximinPartition termsFor largestOdd margin
+division-c-judged : judging contentsC (some statedC) ≡ accepted marginsC
+unfolding judgingBy sharing sharesCovered bundlesAndCuts ofSheet eachInOne figuresTrue lineTrue grade envyFree proportional maximinFair profile maximinShare maximinPartition termsFor largestOdd margin
 division-c-judged = refl
 
 sheet-c-judged : textJudged sheetCAndDivision ≡ accepted marginsC

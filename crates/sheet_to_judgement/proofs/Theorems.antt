@@ -7,6 +7,7 @@ use lib.IntN.{ℤ}
 use Rattle.sheet.specs.Answers.{Answer, refused, accepted, andThen}
 use Rattle.sheet.proofs.Accepted.{refused-not-accepted}
 use Rattle.reading.specs.Reading.{readingFront}
+use Rattle.terms.specs.Terms.{termsOf}
 use Rattle.division_reading.specs.Grammar.{divisionText}
 use Rattle.stated_truth.proofs.Theorems.{accepted-exactly-if-all-true}
 use Rattle.sheet_to_judgement.specs.TextJudged.{sheetJudged, textJudged, TrueText}
@@ -23,7 +24,7 @@ module _ (text : List ℕ) (margins : List ℤ) where
   unfolding textJudged
   accepted-true e =
       let ((sheet, behind), front, judged) = followed (readingFront text) _ margins e in
-      let t = accepted-exactly-if-all-true (sheet .agents) (sheet .items) (sheet .table) (divisionText (sheet .agents) (sheet .items) behind) margins .0 judged in
+      let t = accepted-exactly-if-all-true sheet (termsOf sheet) (divisionText (sheet .agents) (sheet .items) behind) margins .0 judged in
       record {
         sheet = sheet;
         division = t .division;
@@ -39,7 +40,7 @@ module _ (text : List ℕ) (margins : List ℤ) where
       let sheet = t .sheet in
       let s = t .states in
       ap (λ a. andThen a (λ (c, ts). sheetJudged c ts)) (s .sheet-read)
-      ∙ accepted-exactly-if-all-true (sheet .agents) (sheet .items) (sheet .table) (divisionText (sheet .agents) (sheet .items) (s .behind)) margins .1
+      ∙ accepted-exactly-if-all-true sheet (termsOf sheet) (divisionText (sheet .agents) (sheet .items) (s .behind)) margins .1
       (record {
         counts = readingFront-counts text sheet (s .behind) (s .sheet-read);
         division = t .division;

@@ -1,7 +1,7 @@
 -- Every true division in the printed layout is accepted ("It is accepted exactly if all it states is true", document 02, order 5): behind the
 -- strict text of its sheet, the text of what it states gets the margins of its bundles. Assumes nothing.
 use mathlib.Core.Path.{_≡_, refl, _∙_}
-use mathlib.Core.List.{_++_, List·Memᴰ as Mem}
+use mathlib.Core.List.{List, _++_, List·Memᴰ as Mem}
 use Prim.Native.Nat.{ℕ, _+_, _^_, _≤_, _<_}
 use native.Mathlib.Omega.{arith}
 use lib.ListN.{length, length-append}
@@ -11,18 +11,20 @@ use Rattle.lists.proofs.ranges.Ranges.{in-range}
 use Rattle.sheet.specs.Limits.{greatestMark, sumDigits, longestText}
 use Rattle.sheet.specs.Answers.{accepted}
 use Rattle.sheet.specs.Valuations.{itemValue}
-use Rattle.sheet.specs.Tables.{valuation, profile}
-use Rattle.sheet.specs.Contents.{Contents}
+use Rattle.sheet.specs.Tables.{valuation}
+use Rattle.sheet.specs.Contents.{Contents, valuationsOf}
 use Rattle.sheet.proofs.valuing.Tables.{value-allValues, value-small}
 use Rattle.tokens.specs.Tokens.{tokens}
 use Rattle.reading.proofs.SmallMarks.{table-small}
 use Rattle.strict_text.specs.StrictText.{strictText, inUse}
 use Rattle.strict_text.specs.WithinLimits.{WithinLimits}
-use Rattle.strict_text.proofs.WithinLimits.{agents-bounds, items-bounds}
 use Rattle.strict_text.proofs.TextLength.{length-strictText}
 use Rattle.strict_text.proofs.AtFront.{strictText-at-front}
+use Rattle.shares.specs.Shares.{sharesOf}
 use Rattle.shares.proofs.Marks.{share-small}
-use Rattle.grades.specs.Scale.{sharesOf, marginsByTable}
+use Rattle.terms.specs.Terms.{termsOf}
+use Rattle.terms.specs.declared.Terms.{Terms}
+use Rattle.grades.specs.Scale.{marginsByTerms}
 use Rattle.grades.proofs.Grades.{grade-bounds}
 use Rattle.division_reading.specs.Stated.{StatedLine, Stated}
 use Rattle.stated_truth.specs.Truth.{bundlesOf, noneStated, lineOf, AllTrue}
@@ -31,12 +33,11 @@ use Rattle.stated_text.specs.StatedText.{statedText}
 use Rattle.stated_text.proofs.Lines.{line-bundle}
 use Rattle.stated_text.proofs.ReadBack.{statedText-reads-back}
 use Rattle.stated_text.proofs.TextLength.{length-statedText}
-use Rattle.sheet_to_judgement.specs.TextJudged.{textJudged}
+use Rattle.sheet_to_judgement.specs.TextJudged.{States, textJudged}
 use Rattle.sheet_to_judgement.proofs.Theorems.{accepted-exactly-if-true}
 
--- a sheet within the limits, and a division of it, all of which is true
-module _ (sheet : Contents) (w : WithinLimits sheet) (d : Stated) (shape : WellFormed (sheet .agents) (sheet .items) d)
-    (t : AllTrue (sheet .agents) (sheet .items) (sheet .table) d) where
+-- a sheet within the limits, and a division of it, all of which is true by some terms
+module _ (sheet : Contents) (w : WithinLimits sheet) (d : Stated) (shape : WellFormed (sheet .agents) (sheet .items) d) {terms : Terms} (t : AllTrue sheet terms d) where
   marks-small : (i k : ℕ) → itemValue (valuation (sheet .table) i) k ≤ greatestMark
   marks-small = table-small (inUse (sheet .agents) (sheet .items) (sheet .table)) (sheet .table) (w .blank-beyond) (w .marks-allowed)
 
@@ -49,39 +50,37 @@ module _ (sheet : Contents) (w : WithinLimits sheet) (d : Stated) (shape : WellF
   -- true figures have few digits: a worth is the sum of the marks of some items, a share no more than that of all
   true-few-digits : FewDigits d
   true-few-digits =
-      let (some, few) = agents-bounds w in
-      let few-items = items-bounds w .1 in
       let n = sheet .agents in
       let m = sheet .items in
-      let table = sheet .table in
+      let row : ℕ → List ℕ = valuation (sheet .table) in
       record {
-        grade-below = omega (arith, t .grade-true, grade-bounds n (profile n m table) (sharesOf n m table) (marginsByTable n m table (bundlesOf d)) (bundlesOf d));
+        grade-below = omega (arith, t .grade-true, grade-bounds n (valuationsOf sheet) (sharesOf sheet) (marginsByTerms sheet terms (bundlesOf d)) (bundlesOf d));
         worth-below = each-line (λ l. l .worth < 10 ^ sumDigits) (λ i lo hi.
             let of-items = line-bundle n m d shape (in-range 1 n i lo (omega arith)) in
-            omega (arith, t .worth-true i lo hi, value-allValues m (valuation table i) of-items, value-small m (valuation table i) of-items few-items (marks-small i)));
+            omega (arith, t .worth-true i lo hi, value-allValues m (row i) of-items, value-small m (row i) of-items (w .counts .few-items) (marks-small i)));
         share-below = each-line (λ l. l .share < 10 ^ sumDigits) (λ i lo hi.
-            omega (arith, t .share-true i lo hi, share-small n m (valuation table i) some few-items (λ k. omega (arith, nth-next 0 (valuation table i) k, marks-small i (k + 1)))));
+            omega (arith, t .share-true i lo hi, share-small n m (row i) (w .counts .some) (w .counts .few-items) (λ k. omega (arith, nth-next 0 (row i) k, marks-small i (k + 1)))));
       }
 
   -- the two texts together are no longer than a text may be
   length-sheet-and-division : length (strictText sheet ++ statedText (sheet .agents) (sheet .items) d) ≤ longestText
   length-sheet-and-division =
       rw (length-append (strictText sheet) (statedText (sheet .agents) (sheet .items) d))
-      (omega (arith, length-strictText w, length-statedText (sheet .agents) (sheet .items) d (agents-bounds w .1) (items-bounds w .1) shape true-few-digits))
+      (omega (arith, length-strictText w, length-statedText (sheet .agents) (sheet .items) d (w .counts .few) (w .counts .few-items) shape true-few-digits))
 
-  pub true-division-accepted : textJudged (strictText sheet ++ statedText (sheet .agents) (sheet .items) d)
-      ≡ accepted (marginsByTable (sheet .agents) (sheet .items) (sheet .table) (bundlesOf d))
-  true-division-accepted =
+  -- so that the text of both states what the division states
+  true-division-stated : States (strictText sheet ++ statedText (sheet .agents) (sheet .items) d) sheet d
+  true-division-stated =
       let text = statedText (sheet .agents) (sheet .items) d in
-      accepted-exactly-if-true (strictText sheet ++ text) (marginsByTable (sheet .agents) (sheet .items) (sheet .table) (bundlesOf d)) .1
-      (record {
-        sheet = sheet;
-        division = d;
-        states = record {
-          behind = tokens text;
-          sheet-read = strictText-at-front sheet w text length-sheet-and-division;
-          division-read = statedText-reads-back (sheet .agents) (sheet .items) d (agents-bounds w .1) (items-bounds w .1) shape true-few-digits;
-        };
-        all-true = t;
-        margins-of = refl;
-      })
+      record {
+        behind = tokens text;
+        sheet-read = strictText-at-front sheet w text length-sheet-and-division;
+        division-read = statedText-reads-back (sheet .agents) (sheet .items) d (w .counts .few) (w .counts .few-items) shape true-few-digits;
+      }
+
+-- by the terms of the sheet it is accepted, with the margins of its bundles
+pub true-division-accepted : (sheet : Contents) → WithinLimits sheet → (d : Stated) → WellFormed (sheet .agents) (sheet .items) d → AllTrue sheet (termsOf sheet) d
+    → textJudged (strictText sheet ++ statedText (sheet .agents) (sheet .items) d) ≡ accepted (marginsByTerms sheet (termsOf sheet) (bundlesOf d))
+true-division-accepted sheet w d shape t =
+    accepted-exactly-if-true (strictText sheet ++ statedText (sheet .agents) (sheet .items) d) (marginsByTerms sheet (termsOf sheet) (bundlesOf d)) .1
+    (record { sheet = sheet; division = d; states = true-division-stated sheet w d shape t; all-true = t; margins-of = refl })

@@ -9,7 +9,8 @@ use Rattle.sheet.specs.Contents.{Contents}
 use Rattle.tokens.specs.Tokens.{Token}
 use Rattle.reading.specs.Reading.{readingFront}
 use Rattle.writing.specs.Filled.{filling}
-use Rattle.grades.specs.Scale.{marginsByTable}
+use Rattle.terms.specs.Terms.{termsOf}
+use Rattle.grades.specs.Scale.{marginsByTerms}
 use Rattle.division_reading.specs.Stated.{Stated}
 use Rattle.division_reading.specs.Grammar.{divisionText}
 use Rattle.stated_truth.specs.Truth.{bundlesOf, AllTrue}
@@ -18,7 +19,7 @@ use Rattle.sheet_to_judgement.specs.AcceptedText.{acceptedText}
 
 -- the judgement on the division that stands behind a sheet, as these tokens
 abbrev pub sheetJudged : Contents → List Token → Answer (List ℤ)
-sheetJudged sheet behind = judging (sheet .agents) (sheet .items) (sheet .table) (divisionText (sheet .agents) (sheet .items) behind)
+sheetJudged sheet behind = judging sheet (divisionText (sheet .agents) (sheet .items) behind)
 
 -- "Read, from one text, a sheet through its `(end)` line .., and then a division": the refusal's number, or the margins
 unfoldable pub textJudged : List ℕ → Answer (List ℤ)
@@ -39,5 +40,5 @@ pub record TrueText (text : List ℕ) (margins : List ℤ) : Type 0 where
   pub sheet : Contents
   pub division : Stated
   pub states : States text sheet division
-  pub all-true : AllTrue (sheet .agents) (sheet .items) (sheet .table) division
-  pub margins-of : margins ≡ marginsByTable (sheet .agents) (sheet .items) (sheet .table) (bundlesOf division)
+  pub all-true : AllTrue sheet (termsOf sheet) division
+  pub margins-of : margins ≡ marginsByTerms sheet (termsOf sheet) (bundlesOf division)

@@ -1,6 +1,7 @@
 // From a sheet with a division behind it to a judgement: the text of both in, the margins of the agents, or a refusal's number, out.
 ghost use mathlib.Core.Path.{_≡_};
 ghost use lib.ListN.{length};
+ghost use Rattle.sheet.specs.Contents.{contents};
 ghost use Rattle.sheet.specs.Answers.{after};
 ghost use Rattle.writing.specs.Answered.{answered};
 ghost use Rattle.writing.specs.Filled.{filled};
@@ -11,29 +12,24 @@ use crate::accepted::print_margins;
 use division_reading::Stated;
 use division_reading::read_division;
 use judging::judge;
+use sheet::Sheet;
 use sheet::Table;
 use writing::Answer;
 
 pub mod accepted;
 
-// Judges a division of a table and prints the margins; refused as by `judge`, else with 10 where the buffer is shorter than the text.
-fn print_judged(
-    table: Table,
-    agents: usize,
-    items: usize,
-    stated: Stated,
-    buffer: &mut [u8],
-) -> Answer
-    ensures answer { λ r. ⌜ r ≡ answered (printing agents items table (statedIn agents stated) (length (now (buffer .entry)))) ⌝ }
-    ensures buffer { λ _. ⌜ now (buffer .exit) ≡ after filled (printing agents items table (statedIn agents stated) (length (now (buffer .entry)))) (now (buffer .entry)) ⌝ }
+// Judges a division of a sheet and prints the margins; refused as by `judge`, else with 10 where the buffer is shorter than the text.
+fn print_judged(table: Table, sheet: Sheet, stated: Stated, buffer: &mut [u8]) -> Answer
+    ensures answer { λ r. ⌜ r ≡ answered (printing (contents sheet table) (statedIn (sheet .agents) stated) (length (now (buffer .entry)))) ⌝ }
+    ensures buffer { λ _. ⌜ now (buffer .exit) ≡ after filled (printing (contents sheet table) (statedIn (sheet .agents) stated) (length (now (buffer .entry)))) (now (buffer .entry)) ⌝ }
 {
-    let judged = judge(table, agents, items, stated);
+    let judged = judge(table, sheet, stated);
     let answer = judged.answer;
     match answer {
         judging::Answer::Refused(number) => Answer::Refused(number),
         judging::Answer::Accepted => {
             let margins = judged.margins;
-            print_margins(agents, margins, buffer)
+            print_margins(sheet.agents, margins, buffer)
         }
     }
 }
@@ -54,7 +50,7 @@ pub fn judge_division(text: &[u8], buffer: &mut [u8]) -> Answer
             let table = reading::table(rows);
             let behind = front.next;
             let stated = read_division(text, behind, sheet.agents, sheet.items);
-            print_judged(table, sheet.agents, sheet.items, stated, buffer)
+            print_judged(table, sheet, stated, buffer)
         }
     }
 }

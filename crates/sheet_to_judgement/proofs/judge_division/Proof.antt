@@ -3,10 +3,10 @@ use mathlib.Core.Path.{_≡_, sym, ap, _∙_}
 use mathlib.Core.List.{List}
 use Prim.Native.Nat.{ℕ}
 use lib.ListN.{length}
-use Rattle.sheet.specs.Answers.{refused, after}
-use Rattle.sheet.specs.declared.Sheet.{Sheet}
+use Rattle.sheet.specs.Answers.{refused, accepted, after}
+use Rattle.sheet.specs.Contents.{Contents, contents}
+use Rattle.tokens.specs.Tokens.{Token}
 use Rattle.tokeniser.specs.Places.{tokensAt}
-use Rattle.tokeniser.specs.declared.Cursor.{Cursor}
 use Rattle.reading.specs.Reading.{readingFront}
 use Rattle.writing.specs.Filled.{filled}
 use Rattle.writing.specs.Answered.{answered}
@@ -15,7 +15,7 @@ use Rattle.stated_truth.specs.Lines.{statedIn}
 use Rattle.sheet_to_judgement.specs.TextJudged.{textJudged, judgementFrom}
 use Rattle.sheet_to_judgement.specs.internal.Printing.{printing}
 use Rattle.sheet_to_judgement.proofs.StatedBack.{stated-kept}
-use Rattle.sheet_to_judgement.proofs.Front.{FrontRead, refused-front, accepted-front, front-counts}
+use Rattle.sheet_to_judgement.proofs.Front.{refused-front, accepted-front, front-counts}
 use borrow.Author.Needs.{needs}
 use Rattle.sheet_to_judgement.proofs.judge_division.Statement.{statement}
 use Rattle.sheet_to_judgement.proofs.judge_division.Tie as tie
@@ -43,10 +43,10 @@ refused-judged : (text : List ℕ) (room number : ℕ) → readingFront text ≡
 unfolding judgementFrom textJudged
 refused-judged text room number e = rw e
 
-accepted-judged : (text : List ℕ) (room : ℕ) (place : Cursor) (counts : Sheet) (table : List (List ℕ)) → FrontRead text place (readingFront text) counts table
-    → judgementFrom text room ≡ printing (counts .agents) (counts .items) table (divisionText (counts .agents) (counts .items) (tokensAt text place)) room
+accepted-judged : (text : List ℕ) (room : ℕ) (sheet : Contents) (behind : List Token) → readingFront text ≡ accepted (sheet, behind)
+    → judgementFrom text room ≡ printing sheet (divisionText (sheet .agents) (sheet .items) behind) room
 unfolding judgementFrom textJudged printing
-accepted-judged text room place counts table read = rw (read .is-accepted, read .has-table .agents-are, read .has-table .items-are, read .has-table .table-is)
+accepted-judged text room sheet behind read = rw read
 
 returns : tie.Need-returns
 returns c =
@@ -74,8 +74,8 @@ returns-2 c =
     let front = accepted-front (a .text .now) (at-read .read-front .ensures) (at-answer .answer2 .given .1) (at-table .table .ensures) in
     let stated : statedIn (counts .agents) (at-division .read-division .result) ≡ divisionText (counts .agents) (counts .items) behind =
     ap (statedIn (counts .agents)) (at-division .read-division .ensures) ∙ stated-kept (counts .agents) (counts .items) (few .few-items) (few .few) behind in
-    let same : printing (counts .agents) (counts .items) table (statedIn (counts .agents) (at-division .read-division .result)) room ≡ judgementFrom (a .text .now) room =
-    ap (λ d. printing (counts .agents) (counts .items) table d room) stated ∙ sym (accepted-judged (a .text .now) room (at-read .read-front .result .next) counts table front) in
+    let same : printing (contents counts table) (statedIn (counts .agents) (at-division .read-division .result)) room ≡ judgementFrom (a .text .now) room =
+    ap (λ d. printing (contents counts table) d room) stated ∙ sym (accepted-judged (a .text .now) room (contents counts table) behind front) in
     (at-print .print-judged .ensures .0 ∙ ap answered same, at-print .print-judged .ensures .1 ∙ ap (λ p. after filled p (a .buffer .now)) same)
 
 pub judge-division-spec : {M : Type 1} → statement M
