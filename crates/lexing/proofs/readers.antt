@@ -6,6 +6,8 @@ pub mod Follow
 pub mod InTurn
 pub mod Suffixes
 pub mod Places
+pub mod Answers
+pub mod Stored
 pub mod AlsoReads
 pub mod Written
 pub mod Bounds

@@ -1,31 +1,22 @@
--- What the lines between the first line and the line `(end)` give: by the yard lines, and by the test of the code. Assumes nothing.
+-- What the lines between the first line and the line `(end)` give, by the test of the code. Assumes nothing.
 use mathlib.Core.Path.{_≡_, refl, sym, ap, _∙_}
 use mathlib.Core.List.{List}
 use mathlib.Core.Option.{Option, none, some}
 use mathlib.Core.Bool.{true, false, true≢false, false≢true}
-use Prim.Native.Nat.{ℕ, _≤_}
-use native.Mathlib.Omega.{arith}
-use lib.ListN.{length}
+use Prim.Native.Nat.{ℕ}
 use Rattle.lists.specs.Lists.{all}
-use Rattle.lists.proofs.members.Each.{AllOfLength}
-use Rattle.sheet.specs.Limits.{mostAgents, mostItems, greatestMark, markDigits}
+use Rattle.sheet.specs.Limits.{greatestMark}
 use Rattle.tokens.specs.Tokens.{Token}
 use Rattle.tokeniser.specs.Places.{tokensAt}
-use Rattle.tokeniser.specs.Behind.{placeLeft}
 use Rattle.tokeniser.specs.declared.Cursor.{Cursor}
 use Rattle.tokeniser.proofs.Behind.{Leaves, place-leaves}
-use Rattle.lexing.specs.Forms.{_>>=_}
-use Rattle.lexing.proofs.readers.InTurn.{Holds}
+use Rattle.lexing.specs.Results.{answerFrom}
 use Rattle.lexing.proofs.readers.Suffixes.{LeavesEnd}
 use Rattle.sheet_lines.specs.Grammar as grammar
 use Rattle.sheet_lines.specs.Marks.{allowedRow}
 use Rattle.sheet_lines.specs.Kept.{keptYards}
 use Rattle.sheet_lines.specs.Results.{bodyFrom}
-use Rattle.sheet_lines.specs.internal.Kept.{keptAfter, keptLines}
-use Rattle.sheet_lines.specs.internal.Results.{linesFrom}
 use Rattle.sheet_lines.specs.declared.body.Body.{Body}
-use Rattle.sheet_lines.proofs.Shape.{yard-lines-shape}
-use Rattle.sheet_lines.proofs.kept.StoredTable.{stored-yards}
 
 -- what lines give that are as they should be
 pub record Gives (s : List ℕ) (c : Cursor) (r : Body) (b : grammar.Body) (ts : List Token) : Type 0 where
@@ -36,7 +27,7 @@ pub record Gives (s : List ℕ) (c : Cursor) (r : Body) (b : grammar.Body) (ts :
 module _ (s : List ℕ) (c : Cursor) (r : Body) where
   -- where the test says so, the lines were missed, or they were read
   pub unread-missed : (o : Option (grammar.Body × List Token)) → r ≡ bodyFrom s c o → r .read ≡ false → o ≡ none
-  unfolding bodyFrom
+  unfolding answerFrom
   unread-missed none told e = refl
   unread-missed (some (b, ts)) told e = absurd (true≢false (sym (ap (λ l. l .read) told) ∙ e))
 
@@ -47,22 +38,7 @@ module _ (s : List ℕ) (c : Cursor) (r : Body) where
     pub gives : Gives s c r lines behind
 
   pub is-read-gives : (o : Option (grammar.Body × List Token)) → LeavesEnd (λ q. q .1) (tokensAt s c) o → r ≡ bodyFrom s c o → r .read ≡ true → Read o
-  unfolding bodyFrom
+  unfolding answerFrom
   is-read-gives none last told e = absurd (false≢true (sym (ap (λ b. b .read) told) ∙ e))
   is-read-gives (some (b, ts)) last told e =
       record { lines = b; behind = ts; are = refl; gives = rw told (record { tested = refl; filled = refl; leaves = place-leaves last }) }
-
-  -- the yard lines of counts within the limits
-  module _ (agents items : ℕ) (few : agents ≤ mostAgents) (few-items : items ≤ mostItems) where
-    lines-give : (o : Option (List (List ℕ) × List Token)) → Holds (λ q. (length (q .0) ≡ agents) × AllOfLength items (q .0)) o → r ≡ linesFrom s c (keptLines o)
-        → r ≡ bodyFrom s c (o >>= (λ q. some (record { rows = q .0 }, q .1)))
-    unfolding keptAfter linesFrom bodyFrom
-    lines-give none shape told = told
-    lines-give (some (rows, ts)) shape told =
-        told
-        ∙ ap {B = Body} (λ yards. record { read = true; allowed = all (allowedRow greatestMark) rows; yards = yards; next = placeLeft s c ts })
-        (stored-yards items few-items rows (omega (arith, shape .0)) (shape .1))
-
-    pub yard-lines-give : (ts : List Token) → r ≡ linesFrom s c (keptLines (grammar.yardLines markDigits agents items ts)) → r ≡ bodyFrom s c (grammar.body markDigits agents items ts)
-    unfolding grammar.body
-    yard-lines-give ts told = lines-give (grammar.yardLines markDigits agents items ts) (yard-lines-shape markDigits agents items ts) told

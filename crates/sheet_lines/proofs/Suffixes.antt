@@ -1,6 +1,5 @@
 -- What the readers of a sheet's lines leave is the end of the tokens that they were given. Assumes nothing.
 use mathlib.Core.List.{List, suffix-refl}
-use mathlib.Core.Option.{Option, none, some}
 use mathlib.Core.Bool.{Bool}
 use Prim.Native.Nat.{ℕ}
 use Rattle.sheet.specs.Limits.{countDigits}
@@ -10,7 +9,6 @@ use Rattle.lexing.specs.Numbers.{number, numberAfter, followNumber}
 use Rattle.lexing.proofs.readers.Suffixes.{LeavesEnd, then-leaves, follow-leaves, number-leaves, numberAfter-leaves, followNumber-leaves, inTurn-leaves, test-leaves}
 use Rattle.sheet_lines.specs.SheetForms.{beforeAgents, beforeItems, beforeTurn, beforeMarks, lineEnd, lastLine}
 use Rattle.sheet_lines.specs.Grammar.{head, marks, yardTurn, yardLine, yardLines, body, endLine}
-use Rattle.sheet_lines.specs.internal.Kept.{keptAfter}
 
 pub head-leaves : (ts : List Token) → LeavesEnd (λ r. r .2) ts (head ts)
 unfolding head
@@ -42,10 +40,3 @@ body-leaves digits agents items ts =
 pub endLine-leaves : (mayFollow : List Token → Bool) (ts : List Token) → LeavesEnd (λ us. us) ts (endLine mayFollow ts)
 unfolding endLine
 endLine-leaves mayFollow ts = then-leaves ts (follow (form lastLine) ts) _ (λ us. us) (λ us. us) (follow-leaves (form lastLine) ts) (λ us. test-leaves (mayFollow us) us)
-
--- what is kept of entries leaves what they leave
-module _ {A B : Type 0} (stored : A → B) (test : A → Bool) (k : ℕ) (places : List B) (passed : Bool) where
-  pub kept-leaves : (ts : List Token) (o : Option (List A × List Token)) → LeavesEnd (λ r. r .1) ts o → LeavesEnd (λ q. q .2) ts (keptAfter stored test k places passed o)
-  unfolding keptAfter
-  kept-leaves ts none last = tt
-  kept-leaves ts (some r) last = last

@@ -10,6 +10,7 @@ use Rattle.tokens.specs.Tokens.{Token}
 use Rattle.tokeniser.specs.Places.{start}
 use Rattle.tokeniser.specs.Behind.{placeLeft}
 use Rattle.tokeniser.specs.declared.Cursor.{Cursor}
+use Rattle.lexing.specs.Results.{answerFrom}
 use Rattle.sheet_lines.specs.Grammar as grammar
 use Rattle.sheet_lines.specs.Marks.{allowedRow}
 use Rattle.sheet_lines.specs.Kept.{blankYards, keptYards}
@@ -25,7 +26,10 @@ headFrom s c (some (agents, items, ts)) = head.the-variants.Counts agents items 
 abbrev pub unreadBody : Body
 unreadBody = record { read = false; allowed = false; yards = blankYards; next = start }
 
--- the lines between the first line and the line `(end)`: whether all marks are allowed, and the rows of marks
-unfoldable pub bodyFrom : List ℕ → Cursor → Option (grammar.Body × List Token) → Body
-bodyFrom s c none = unreadBody
-bodyFrom s c (some (b, ts)) = record { read = true; allowed = all (allowedRow greatestMark) (b .rows); yards = keptYards (b .rows); next = placeLeft s c ts }
+-- the others give whether all marks are allowed, and the rows of marks
+abbrev pub readBody : grammar.Body → Cursor → Body
+readBody b next = record { read = true; allowed = all (allowedRow greatestMark) (b .rows); yards = keptYards (b .rows); next = next }
+
+-- the lines between the first line and the line `(end)`
+abbrev pub bodyFrom : List ℕ → Cursor → Option (grammar.Body × List Token) → Body
+bodyFrom s c o = answerFrom unreadBody readBody s c o

@@ -3,12 +3,9 @@ ghost use Prim.Native.Nat.{_≤_, min};
 ghost use mathlib.Core.Path.{_≡_};
 ghost use Rattle.sheet.specs.Limits.{mostAgents, mostItems, markDigits};
 ghost use Rattle.tokeniser.specs.Places.{tokensAt};
-ghost use Rattle.sheet_lines.specs.Grammar.{yardLines};
 ghost use Rattle.sheet_lines.specs.Grammar;
 ghost use Rattle.sheet_lines.specs.Kept.{blankYards};
 ghost use Rattle.sheet_lines.specs.Results.{unreadBody, bodyFrom};
-ghost use Rattle.sheet_lines.specs.internal.Kept.{keptLines};
-ghost use Rattle.sheet_lines.specs.internal.Results.{linesFrom};
 use crate::yards::Yard;
 use crate::yards::yard_line;
 use sheet::Sheet;
@@ -51,7 +48,7 @@ fn unread() -> Body
 fn yard_lines(s: &[u8], c: Cursor, agents: usize, items: usize) -> Body
     requires { ⌜ agents ≤ mostAgents ⌝ }
     requires { ⌜ items ≤ mostItems ⌝ }
-    ensures { λ r. ⌜ r ≡ linesFrom (now (s .entry)) c (keptLines (yardLines markDigits agents items (tokensAt (now (s .entry)) c))) ⌝ }
+    ensures { λ r. ⌜ r ≡ bodyFrom (now (s .entry)) c (Grammar.body markDigits agents items (tokensAt (now (s .entry)) c)) ⌝ }
 {
     let mut yards = blank_yards();
     let mut allowed = true;

@@ -7,10 +7,11 @@ use borrow.Author.Needs.{needs}
 use Rattle.sheet.specs.Limits.{countDigits}
 use Rattle.lexing.specs.Forms.{form}
 use Rattle.lexing.specs.Numbers.{numberAfter, followNumber}
-use Rattle.lexing.specs.Results.{numberFrom}
+use Rattle.lexing.specs.Results.{answerFrom}
 use Rattle.lexing.specs.declared.forms.Number.the-variants.{Value}
 use Rattle.lexing.proofs.readers.Suffixes.{numberAfter-leaves}
-use Rattle.lexing.proofs.readers.Places.{ReadTo, followed-missed, number-missed, number-to, number-none, follow-read, followNumber-read}
+use Rattle.lexing.proofs.readers.Places.{ReadTo, followed-missed, number-missed, number-to, follow-read, followNumber-read}
+use Rattle.lexing.proofs.readers.Answers.{answer-none}
 use Rattle.tokeniser.specs.Places.{tokensAt}
 use Rattle.tokeniser.proofs.Behind.{reached-then, reached-place}
 use Rattle.sheet_lines.specs.SheetForms.{beforeItems}
@@ -58,7 +59,7 @@ enum-told c = search needs
 
 returns : tie.Need-returns
 unfolding head
-returns c = number-none _ _ (rw (followed-missed _ _ _ (c .before .before .follow-number .ensures) (c .enum-told .given .1)))
+returns c = answer-none _ _ _ _ (rw (followed-missed _ _ _ (c .before .before .follow-number .ensures) (c .enum-told .given .1)))
 
 slice-aggregate-follow-number-2 : tie.Need-slice-aggregate-follow-number-2
 slice-aggregate-follow-number-2 c = search needs
@@ -76,7 +77,7 @@ returns-2 : tie.Need-returns-2
 unfolding head
 returns-2 c =
     let missed = followed-missed _ _ _ (c .before .before .follow-number2 .ensures) (c .enum-told2 .given .1) in
-    number-none _ _ (rw (agents-read (c .before .before .before .before .before) .read, missed))
+    answer-none _ _ _ _ (rw (agents-read (c .before .before .before .before .before) .read, missed))
 
 slice-aggregate-number-after : tie.Need-slice-aggregate-number-after
 slice-aggregate-number-after c = search needs
@@ -95,7 +96,7 @@ unfolding head
 returns-3 c =
     let i = c .before .before .before .before .before in
     let missed = number-missed _ _ _ (c .before .before .number-after .ensures) (c .enum-told3 .given .1) in
-    number-none _ _ (rw (agents-read (agents-point i) .read, items-read i .read, missed))
+    answer-none _ _ _ _ (rw (agents-read (agents-point i) .read, items-read i .read, missed))
 
 slice-aggregate-follow : tie.Need-slice-aggregate-follow
 slice-aggregate-follow c = search needs
@@ -115,10 +116,10 @@ returns-4 c =
     let g = c .before .before .before .before .before in
     let i = items-point g in
     let missed = followed-missed _ _ _ (c .before .before .follow .ensures) (c .enum-told4 .given .1) in
-    number-none _ _ (rw (agents-read (agents-point i) .read, items-read i .read, grade-read g .read, missed))
+    answer-none _ _ _ _ (rw (agents-read (agents-point i) .read, items-read i .read, grade-read g .read, missed))
 
 returns-5 : tie.Need-returns-5
-unfolding head numberFrom
+unfolding head answerFrom
 returns-5 c =
     let g = c .before .before .before .before .before .before in
     let i = items-point g in

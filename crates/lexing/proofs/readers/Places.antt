@@ -11,7 +11,7 @@ use Rattle.tokeniser.specs.declared.Cursor.{Cursor}
 use Rattle.tokeniser.proofs.Behind.{Reached, place-leaves, placeLeft-then}
 use Rattle.lexing.specs.Forms.{follow}
 use Rattle.lexing.specs.Numbers.{number, numberAfter, followNumber}
-use Rattle.lexing.specs.Results.{followedFrom, numberFrom}
+use Rattle.lexing.specs.Results.{answerFrom, followedFrom, numberFrom}
 use Rattle.lexing.specs.declared.forms.Followed as followed
 use Rattle.lexing.specs.declared.forms.Number as number-read
 use Rattle.lexing.proofs.readers.Suffixes.{LeavesEnd, follow-leaves, number-leaves, numberAfter-leaves, followNumber-leaves}
@@ -41,13 +41,13 @@ module _ (s : List ℕ) (c : Cursor) where
   followed-to (some ts) last told e = read-to (λ us. us) last (cc)
 
   pub number-missed : (o : Option (ℕ × List Token)) {r : number-read.Number} → r ≡ numberFrom s c o → r ≡ number-read.the-variants.Missed → o ≡ none
-  unfolding numberFrom
+  unfolding answerFrom
   number-missed none told e = refl
   number-missed (some r) told e = cc
 
   pub number-to : (o : Option (ℕ × List Token)) {r : number-read.Number} {n : ℕ} {c′ : Cursor} → LeavesEnd (λ r. r .1) (tokensAt s c) o → r ≡ numberFrom s c o
       → r ≡ number-read.the-variants.Value n c′ → ReadTo s c o (λ ts. (n, ts)) c′
-  unfolding numberFrom
+  unfolding answerFrom
   number-to none last told e = let z : _≡_ {A = ℕ} 0 1 = cc in absurd (omega arith)
   number-to (some (k, ts)) {n = n} {c′ = c′} last told e =
       let same : k ≡ n = cc in
@@ -58,20 +58,11 @@ pub followed-none : (s : List ℕ) (c : Cursor) {o : Option (List Token)} → o 
 unfolding followedFrom
 followed-none s c e = rw e
 
-pub number-none : (s : List ℕ) (c : Cursor) {o : Option (ℕ × List Token)} → o ≡ none → number-read.the-variants.Missed ≡ numberFrom s c o
-unfolding numberFrom
-number-none s c e = rw e
-
 -- what is read is the same from a place that was reached before
 pub followed-then : {s : List ℕ} {c c′ : Cursor} (o : Option (List Token)) → Reached s c c′ → LeavesEnd (λ us. us) (tokensAt s c′) o → followedFrom s c′ o ≡ followedFrom s c o
 unfolding followedFrom
 followed-then none r last = refl
 followed-then (some ts) r last = ap followed.the-variants.At (placeLeft-then r last)
-
-pub number-then : {s : List ℕ} {c c′ : Cursor} (o : Option (ℕ × List Token)) → Reached s c c′ → LeavesEnd (λ r. r .1) (tokensAt s c′) o → numberFrom s c′ o ≡ numberFrom s c o
-unfolding numberFrom
-number-then none r last = refl
-number-then (some (n, ts)) r last = ap (number-read.the-variants.Value n) (placeLeft-then r last)
 
 -- what each reader has read, where it has read something
 module _ (s : List ℕ) (c : Cursor) where

@@ -1,64 +1,57 @@
--- What is kept of readings one after another: the next one of a loop, and what was read. Assumes nothing.
-use mathlib.Core.Path.{_≡_, refl, sym, ap, _∙_}
-use mathlib.Core.List.{List, _∷_, map}
-use mathlib.Core.Option.{Option, none, some, Option·some-injective}
-use mathlib.Core.Bool.{Bool, _&&_, and-true, and-assoc}
-use Prim.Native.Nat.{ℕ, _+_, _-_, _≤_, _<_}
-use native.Mathlib.Numerals.{add-one}
-use native.Mathlib.Omega.{arith}
-use lib.ListN.{set}
-use lib.Seq.{sets}
-use Rattle.lists.specs.Lists.{all}
+-- The loops over the marks of a line and over the yard lines, before any is read. Assumes nothing.
+use mathlib.Core.Path.{_≡_, refl, ap, _∙_}
+use mathlib.Core.List.{List, map}
+use mathlib.Core.Option.{Option, none, some}
+use mathlib.Core.Bool.{Bool, true}
+use Prim.Native.Nat.{ℕ, _≤_}
+use Rattle.lists.specs.Lists.{all, padded}
+use Rattle.sheet.specs.Limits.{mostAgents, mostItems, greatestMark, markDigits, blankRow}
 use Rattle.tokens.specs.Tokens.{Token}
-use Rattle.lexing.specs.Forms.{_>>=_, inTurn}
-use Rattle.lexing.proofs.readers.InTurn.{turn-missed, turn-read, turn-none-left}
-use Rattle.sheet_lines.specs.internal.Kept.{keptAfter}
+use Rattle.tokeniser.specs.Behind.{placeLeft}
+use Rattle.tokeniser.specs.declared.Cursor.{Cursor}
+use Rattle.lexing.specs.Forms.{_>>=_}
+use Rattle.lexing.specs.Numbers.{number}
+use Rattle.lexing.specs.Results.{answerFrom}
+use Rattle.lexing.proofs.readers.Stored.{Storing, storedFrom, none-stored}
+use Rattle.sheet_lines.specs.Grammar.{marks, yardLine, yardLines, body}
+use Rattle.sheet_lines.specs.Marks.{allowed, allowedRow}
+use Rattle.sheet_lines.specs.Kept.{yard, blankYards, reduced}
+use Rattle.sheet_lines.specs.Results.{unreadBody, bodyFrom}
+use Rattle.sheet_lines.specs.internal.Results.{unreadLine, lineFrom}
+use Rattle.sheet_lines.specs.declared.yards.Yard.{Yard}
+use Rattle.sheet_lines.specs.declared.yards.Line.{Line}
+use Rattle.sheet_lines.specs.declared.body.Body.{Body}
+use Rattle.sheet_lines.proofs.kept.StoredTable.{yards-padded}
 
-module _ {A B : Type 0} (stored : A → B) (test : A → Bool) where
-  -- what is kept comes from what was read
-  pub record KeptFrom (k : ℕ) (places : List B) (passed : Bool) (o : Option (List A × List Token)) (q : List B × Bool × List Token) : Type 0 where
-    pub entries : List A
-    pub read : o ≡ some (entries, q .2)
-    pub filled : q .0 ≡ sets places k (map stored entries)
-    pub tested : q .1 ≡ passed && all test entries
+abbrev pub rowRead : Bool → List ℕ → Cursor → Line
+rowRead passed row next = record { read = true; allowed = passed; row = row; next = next }
 
-  module _ (k : ℕ) (places : List B) (passed : Bool) where
-    pub kept-from : (o : Option (List A × List Token)) (q : List B × Bool × List Token) → keptAfter stored test k places passed o ≡ some q → KeptFrom k places passed o q
-    unfolding keptAfter
-    kept-from none q e = let z : _≡_ {A = ℕ} 0 1 = cc in absurd (omega arith)
-    kept-from (some r) q e =
-        let same = Option·some-injective _ _ e in
-        record {
-          entries = r .0;
-          read = ap (λ p. some (r .0, p .2)) same;
-          filled = sym (ap (λ p. p .0) same);
-          tested = sym (ap (λ p. p .1) same);
-        }
+abbrev pub marksStored : Storing ℕ ℕ Line
+marksStored = record { reader = λ piece. number markDigits; stored = reduced; test = allowed greatestMark; missed = unreadLine; done = rowRead }
 
-    pub kept-none : (o : Option (List A × List Token)) → keptAfter stored test k places passed o ≡ none → o ≡ none
-    unfolding keptAfter
-    kept-none none e = refl
-    kept-none (some r) e = cc
+abbrev pub yardsRead : Bool → List Yard → Cursor → Body
+yardsRead passed yards next = record { read = true; allowed = passed; yards = yards; next = next }
 
-    -- one entry before others
-    kept-cons : (a : A) (o : Option (List A × List Token))
-        → keptAfter stored test k places passed (o >>= (λ r. some (a ∷ r .0, r .1))) ≡ keptAfter stored test (k + 1) (set places k (stored a)) (passed && test a) o
-    unfolding keptAfter
-    kept-cons a none = refl
-    kept-cons a (some r) = rw (add-one k, and-assoc passed (test a) (all test (r .0)))
+abbrev pub linesStored : ℕ → Storing (List ℕ) Yard Body
+linesStored items =
+    record {
+      reader = yardLine markDigits items;
+      stored = λ row. yard (padded mostItems 0 (map reduced row));
+      test = allowedRow greatestMark;
+      missed = unreadBody;
+      done = yardsRead;
+    }
 
-    -- of n readings the one after i is missed, or it is read, or none is left
-    module _ (reader : ℕ → List Token → Option (A × List Token)) (turn i n : ℕ) (ts : List Token) where
-      pub kept-missed : i < n → reader turn ts ≡ none → keptAfter stored test k places passed (inTurn reader turn (n - i) ts) ≡ none
-      unfolding keptAfter
-      kept-missed h e = rw (turn-missed reader turn i n ts h e)
+module _ (s : List ℕ) (c : Cursor) (items : ℕ) (ts : List Token) where
+  pub no-mark-stored : items ≤ mostItems → lineFrom s c (marks markDigits items ts) ≡ storedFrom marksStored s c items 0 blankRow true ts
+  no-mark-stored few = none-stored marksStored s c items mostItems 0 ts few
 
-      pub kept-read : (a : A) (ts′ : List Token) → i < n → reader turn ts ≡ some (a, ts′)
-          → keptAfter stored test k places passed (inTurn reader turn (n - i) ts)
-          ≡ keptAfter stored test (k + 1) (set places k (stored a)) (passed && test a) (inTurn reader (turn + 1) (n - (i + 1)) ts′)
-      kept-read a ts′ h e =
-          ap (keptAfter stored test k places passed) (turn-read reader turn i n ts a ts′ h e) ∙ kept-cons a (inTurn reader (turn + 1) (n - (i + 1)) ts′)
-
-      pub kept-all : n ≤ i → keptAfter stored test k places passed (inTurn reader turn (n - i) ts) ≡ some (places, passed, ts)
-      unfolding keptAfter
-      kept-all h = rw (turn-none-left reader turn i n ts h, and-true)
+  pub no-line-stored : (agents : ℕ) → agents ≤ mostAgents → bodyFrom s c (body markDigits agents items ts) ≡ storedFrom (linesStored items) s c agents 0 blankYards true ts
+  unfolding answerFrom body
+  no-line-stored agents few = go (yardLines markDigits agents items ts) ∙ none-stored (linesStored items) s c agents mostAgents (yard blankRow) ts few
+    where
+      go : (o : Option (List (List ℕ) × List Token))
+          → bodyFrom s c (o >>= (λ q. some (record { rows = q .0 }, q .1)))
+          ≡ answerFrom unreadBody (λ rows next. yardsRead (all (allowedRow greatestMark) rows) (padded mostAgents (yard blankRow) (map (λ row. yard (padded mostItems 0 (map reduced row))) rows)) next) s c o
+      go none = refl
+      go (some (rows, us)) = ap (λ yards. yardsRead (all (allowedRow greatestMark) rows) yards (placeLeft s c us)) (yards-padded rows)

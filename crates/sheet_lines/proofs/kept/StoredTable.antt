@@ -1,36 +1,25 @@
 -- The yards that are stored are those of the table of the marks that were read; where all marks are allowed, none of them is altered.
 -- Assumes nothing.
-use mathlib.Core.Path.{_≡_, refl, sym, ap, ap₂, _∙_}
+use mathlib.Core.Path.{_≡_, refl, ap, ap₂, _∙_}
 use mathlib.Core.List.{List, [], _∷_, map}
 use mathlib.Core.Bool.{true, and-eq-true-iff}
-use Prim.Native.Nat.{ℕ, _+_, _≤_}
+use Prim.Native.Nat.{ℕ, _+_}
 use native.Mathlib.Nat.{mod-eq-of-lt}
 use native.Mathlib.Omega.{arith}
-use lib.ListN.{length, length-map}
-use lib.Seq.{sets}
 use borrow.Author.Tests.{leb-true}
 use Rattle.lists.specs.Lists.{padded, all}
-use Rattle.lists.proofs.members.Each.{AllOfLength}
-use Rattle.lists.proofs.places.Padding.{sets-blank}
 use Rattle.lists.proofs.places.Stores.{map-padded}
 use Rattle.sheet.specs.Limits.{mostAgents, mostItems, greatestMark, blankRow}
 use Rattle.sheet_lines.specs.Marks.{allowed, allowedRow}
-use Rattle.sheet_lines.specs.Kept.{tableOf, yard, blankYards, reduced, keptYards}
-use Rattle.sheet_lines.specs.internal.Kept.{rowOf}
+use Rattle.sheet_lines.specs.Kept.{tableOf, yard, reduced, keptYards}
 
-module _ (items : ℕ) (few-items : items ≤ mostItems) where
-  rows-padded : (rows : List (List ℕ)) → AllOfLength items rows → map (λ ms. yard (rowOf ms)) rows ≡ map yard (map (padded mostItems 0) (map (map reduced) rows))
-  rows-padded [] l = refl
-  rows-padded (row ∷ rows) l =
-      let short : length (map reduced row) ≤ mostItems = simp length-map (omega (arith, l .0)) in
-      ap₂ _∷_ (ap yard (sets-blank mostItems 0 (map reduced row) short)) (rows-padded rows (l .1))
-
-  pub stored-yards : (rows : List (List ℕ)) → length rows ≤ mostAgents → AllOfLength items rows → sets blankYards 0 (map (λ ms. yard (rowOf ms)) rows) ≡ keptYards rows
-  stored-yards rows few l =
-      let padded-rows = map (padded mostItems 0) (map (map reduced) rows) in
-      ap (sets blankYards 0) (rows-padded rows l)
-      ∙ sets-blank mostAgents (yard blankRow) (map yard padded-rows) (rw (length-map, length-map, length-map) few)
-      ∙ sym (map-padded yard mostAgents blankRow padded-rows)
+-- each row in its places
+pub yards-padded : (rows : List (List ℕ)) → keptYards rows ≡ padded mostAgents (yard blankRow) (map (λ row. yard (padded mostItems 0 (map reduced row))) rows)
+yards-padded rows = map-padded yard mostAgents blankRow (map (padded mostItems 0) (map (map reduced) rows)) ∙ ap (padded mostAgents (yard blankRow)) (go rows)
+  where
+    go : (rows : List (List ℕ)) → map yard (map (padded mostItems 0) (map (map reduced) rows)) ≡ map (λ row. yard (padded mostItems 0 (map reduced row))) rows
+    go [] = refl
+    go (row ∷ rows) = ap (λ l. yard (padded mostItems 0 (map reduced row)) ∷ l) (go rows)
 
 map-reduced : (ms : List ℕ) → allowedRow greatestMark ms ≡ true → map reduced ms ≡ ms
 map-reduced [] f = refl

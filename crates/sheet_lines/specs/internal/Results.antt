@@ -1,29 +1,27 @@
--- What the private functions answer for what the grammar reads from the tokens at a place: nothing, or what is kept of it, and the place
--- just behind it. Assumes nothing: these are definitions.
-use mathlib.Core.List.{List}
-use mathlib.Core.Option.{Option, none, some}
-use mathlib.Core.Bool.{Bool, true, false}
+-- What the private functions answer for the marks of a line that are read from the tokens at a place: nothing, or the marks as they are
+-- stored, and the place just behind them. Assumes nothing: these are definitions.
+use mathlib.Core.List.{List, map}
+use mathlib.Core.Option.{Option}
+use mathlib.Core.Bool.{true, false}
 use Prim.Native.Nat.{ℕ}
-use Rattle.sheet.specs.Limits.{blankRow}
+use Rattle.lists.specs.Lists.{padded}
+use Rattle.sheet.specs.Limits.{mostItems, greatestMark, blankRow}
 use Rattle.tokens.specs.Tokens.{Token}
 use Rattle.tokeniser.specs.Places.{start}
-use Rattle.tokeniser.specs.Behind.{placeLeft}
 use Rattle.tokeniser.specs.declared.Cursor.{Cursor}
-use Rattle.sheet_lines.specs.Results.{unreadBody}
-use Rattle.sheet_lines.specs.declared.yards.Yard.{Yard}
+use Rattle.lexing.specs.Results.{answerFrom}
+use Rattle.sheet_lines.specs.Marks.{allowedRow}
+use Rattle.sheet_lines.specs.Kept.{reduced}
 use Rattle.sheet_lines.specs.declared.yards.Line.{Line}
-use Rattle.sheet_lines.specs.declared.body.Body.{Body}
 
 -- a line that is not as it should be gives nothing
 abbrev pub unreadLine : Line
 unreadLine = record { read = false; allowed = false; row = blankRow; next = start }
 
--- the marks of a line
-unfoldable pub lineFrom : List ℕ → Cursor → Option (List ℕ × Bool × List Token) → Line
-lineFrom s c none = unreadLine
-lineFrom s c (some (row, allowed, ts)) = record { read = true; allowed = allowed; row = row; next = placeLeft s c ts }
+-- another gives whether all its marks are allowed, and the row of them
+abbrev pub readLine : List ℕ → Cursor → Line
+readLine marks next = record { read = true; allowed = allowedRow greatestMark marks; row = padded mostItems 0 (map reduced marks); next = next }
 
--- the yard lines
-unfoldable pub linesFrom : List ℕ → Cursor → Option (List Yard × Bool × List Token) → Body
-linesFrom s c none = unreadBody
-linesFrom s c (some (yards, allowed, ts)) = record { read = true; allowed = allowed; yards = yards; next = placeLeft s c ts }
+-- the marks of a line
+abbrev pub lineFrom : List ℕ → Cursor → Option (List ℕ × List Token) → Line
+lineFrom s c o = answerFrom unreadLine readLine s c o

@@ -3,7 +3,7 @@ use mathlib.Core.Path.{sym, ap, _∙_}
 use native.Mathlib.Omega.{arith}
 use Rattle.tokeniser.proofs.NextToken.{next-token}
 use Rattle.tokeniser.proofs.Behind.{reached-next, reached-place}
-use Rattle.lexing.specs.Results.{numberFrom}
+use Rattle.lexing.specs.Results.{answerFrom}
 use Rattle.lexing.specs.declared.forms.Number.the-variants.{Value}
 use Rattle.lexing.proofs.readers.Numbers.{number-missed, number-read, number-left}
 use borrow.Author.Needs.{needs}
@@ -32,14 +32,14 @@ enum-told : tie.Need-enum-told
 enum-told c = search needs
 
 returns : tie.Need-returns
-unfolding numberFrom
+unfolding answerFrom
 returns c =
     let digits-read = c .before .before in
     let token-read = digits-read .before .before in
     rw (number-missed _ (next-token (token-read .next-token .ensures)) (sym (digits-read .read-digits .ensures) ∙ c .enum-told .given .1))
 
 returns-2 : tie.Need-returns-2
-unfolding numberFrom
+unfolding answerFrom
 returns-2 c =
     let at-value = c .before .before in
     let digits-read = at-value .before .before in

@@ -1,36 +1,30 @@
--- `yards::read_marks` meets its contract. The loop's invariant: the marks still due, kept after those in the row, are what is to be read. Assumes nothing.
-use mathlib.Core.Path.{_≡_, refl, ap, _∙_}
-use mathlib.Core.Bool.{true}
-use Prim.Native.Nat.{_≤_, _+_, _-_}
-use native.Mathlib.Nat.{sub-zero}
+-- `yards::read_marks` meets its contract. The loop's invariant: the marks still due, behind those in the row, are what is to be read. Assumes nothing.
+use mathlib.Core.Path.{_≡_, refl, sym, ap, _∙_}
+use Prim.Native.Nat.{_≤_, _-_}
 use native.Mathlib.Omega.{arith}
 use borrow.Author.Needs.{needs}
 use lib.ListN.{length, length-set}
 use Rattle.sheet.specs.Limits.{mostItems, markDigits}
-use Rattle.lexing.specs.Forms.{inTurn}
-use Rattle.lexing.specs.Numbers.{number}
 use Rattle.tokeniser.specs.Places.{tokensAt}
 use Rattle.tokeniser.proofs.Behind.{Reached, reached-here, reached-then, reached-place}
 use Rattle.lexing.proofs.readers.Places.{number-missed, number-at-read}
+use Rattle.lexing.proofs.readers.Stored.{storedFrom, next-missed, next-stored, all-stored}
 use Rattle.sheet_lines.specs.Grammar.{marks}
-use Rattle.sheet_lines.specs.internal.Kept.{keptMarksAfter}
 use Rattle.sheet_lines.specs.internal.Results.{lineFrom}
-use Rattle.sheet_lines.specs.declared.yards.Line.{Line}
-use Rattle.sheet_lines.proofs.kept.InTurn.{kept-read, kept-missed, kept-all}
+use Rattle.sheet_lines.proofs.kept.InTurn.{rowRead, marksStored, no-mark-stored}
 use Rattle.sheet_lines.proofs.yards.read_marks.Statement.{statement}
 use Rattle.sheet_lines.proofs.yards.read_marks.Tie as tie
 
 abbrev Inv-loop : tie.InvT-loop
 Inv-loop s items row₀ allowed₀ here₀ k₀ row allowed here k =
     (k ≤ items) × (length row ≡ mostItems) × Reached s here₀ here
-    × (keptMarksAfter 0 row₀ allowed₀ (marks markDigits items (tokensAt s here₀))
-    ≡ keptMarksAfter k row allowed (inTurn (λ piece. number markDigits) (k + 1) (items - k) (tokensAt s here)))
+    × (lineFrom s here₀ (marks markDigits items (tokensAt s here₀)) ≡ storedFrom marksStored s here₀ items k row allowed (tokensAt s here))
 
 abbrev μ-loop : tie.MeasureT-loop
 μ-loop s items row₀ allowed₀ here₀ k₀ row allowed here k = items - k
 
 loop-holds : tie.Need-loop-holds Inv-loop μ-loop
-loop-holds c = (omega arith, refl, reached-here, rw sub-zero)
+loop-holds c = (omega arith, refl, reached-here, no-mark-stored _ _ _ _ (c .before .pre))
 
 read-number-requires : tie.Need-read-number-requires Inv-loop μ-loop
 read-number-requires c κs = tt
@@ -45,11 +39,10 @@ unread-requires : tie.Need-unread-requires Inv-loop μ-loop
 unread-requires c κs = tt
 
 returns : tie.Need-returns Inv-loop μ-loop
-unfolding lineFrom
 returns c =
     let number-read = c .before .before .before in
     let missed = number-missed _ _ _ (number-read .read-number .ensures) (c .before .enum-told .given .1) in
-    rw (number-read .before .before .loop .inv .3 ∙ kept-missed _ _ _ _ _ _ _ _ _ _ (number-read .before .loop-test .taken) missed) (c .unread .ensures)
+    c .unread .ensures ∙ next-missed marksStored _ _ _ _ _ _ _ (number-read .before .loop-test .taken) missed ∙ sym (number-read .before .before .loop .inv .3)
 
 cast-row : tie.Need-cast-row Inv-loop μ-loop
 cast-row c = search needs
@@ -77,15 +70,13 @@ loop-again c =
       omega arith,
       simp length-set (loop .loop .inv .1),
       reached-then (loop .loop .inv .2) (h .reached),
-      rw (c .both .ensures) (loop .loop .inv .3 ∙ kept-read _ _ _ _ _ _ _ _ _ _ _ _ (number-read .before .loop-test .taken) (h .read)),
+      rw (c .both .ensures) (loop .loop .inv .3 ∙ next-stored marksStored _ _ _ _ _ _ _ _ _ (number-read .before .loop-test .taken) (h .read)),
     )
 
 returns-2 : tie.Need-returns-2 Inv-loop μ-loop
-unfolding lineFrom
 returns-2 c =
     let loop = c .before .loop in
-    rw (loop .inv .3 ∙ kept-all _ _ _ _ _ _ _ _ _ _ (c .loop-test .left))
-    (ap {B = Line} (λ next. record { read = true; allowed = loop .allowed; row = loop .row; next = next }) (reached-place (loop .inv .2)))
+    ap (rowRead (loop .allowed) (loop .row)) (reached-place (loop .inv .2)) ∙ all-stored marksStored _ _ _ _ _ _ _ (c .loop-test .left) ∙ sym (loop .inv .3)
 
 pub read-marks-spec : {M : Type 1} → statement M
 read-marks-spec =
