@@ -11,12 +11,16 @@ use borrow.Author.Tests.{lt-ltb, le-ltb, le-leb, lt-leb}
 use Rattle.sheet.specs.Limits.{countDigits, mostItems}
 use Rattle.sheet.specs.Sets.{setOf}
 use Rattle.tokens.specs.Tokens.{Token}
+use Rattle.tokeniser.specs.Behind.{placeLeft}
+use Rattle.tokeniser.specs.declared.Cursor.{Cursor}
 use Rattle.lexing.specs.Forms.{_>>=_}
 use Rattle.lexing.specs.Numbers.{isNumber, digitsAfter, number}
+use Rattle.lexing.specs.Results.{answerFrom}
 use Rattle.lexing.proofs.readers.Tested.{number-passed}
 use Rattle.bundle_reading.specs.Bundles.{risingItems}
-use Rattle.bundle_reading.specs.Kept.{mapRead, keptBundle}
-use Rattle.bundle_reading.specs.internal.Kept.{keptItemsAfter}
+use Rattle.bundle_reading.specs.Results.{bundleFrom}
+use Rattle.bundle_reading.specs.declared.Bundle.{Bundle}
+use Rattle.bundle_reading.specs.declared.Bundle.the-variants.{Items, Missed}
 
 module _ (items above : ℕ) where
   -- no number is left
@@ -49,20 +53,25 @@ module _ (items above : ℕ) where
       pub item-rises : above < k → k ≤ items → risingItems items above ts ≡ (risingItems items k ts′ >>= (λ r. some (k ∷ r .0, r .1)))
       item-rises h l = item-read ts e ∙ rw (lt-ltb above k h, le-leb k items l)
 
--- the set of items before any is read, and with one more
-pub none-kept : (o : Option (List ℕ × List Token)) → keptBundle o ≡ keptItemsAfter 0 o
-unfolding mapRead
-none-kept none = refl
-none-kept (some r) = rw (zero-add (setOf (r .0)))
+-- what is answered for items that are read behind those of a set
+abbrev pub behindSet : ℕ → List ℕ → Cursor → Option (List ℕ × List Token) → Bundle
+behindSet set s c o = answerFrom Missed (λ items next. Items (set + setOf items) next) s c o
 
-pub item-kept : (set k : ℕ) (o : Option (List ℕ × List Token)) → keptItemsAfter set (o >>= (λ r. some (k ∷ r .0, r .1))) ≡ keptItemsAfter (set + 2 ^ (k - 1)) o
-unfolding mapRead
-item-kept set k none = refl
-item-kept set k (some r) = rw (add-assoc set (2 ^ (k - 1)) (setOf (r .0)))
+-- before any is read, with one more, and when none is left
+module _ (s : List ℕ) (c : Cursor) where
+  pub none-before : (o : Option (List ℕ × List Token)) → bundleFrom s c o ≡ behindSet 0 s c o
+  unfolding answerFrom
+  none-before none = refl
+  none-before (some (l, ts)) = rw (zero-add (setOf l))
 
-pub all-kept : (set : ℕ) (ts : List Token) → keptItemsAfter set (some ([], ts)) ≡ some (set, ts)
-unfolding mapRead
-all-kept set ts = rw (add-zero set)
+  pub item-before : (set k : ℕ) (o : Option (List ℕ × List Token)) → behindSet set s c (o >>= (λ r. some (k ∷ r .0, r .1))) ≡ behindSet (set + 2 ^ (k - 1)) s c o
+  unfolding answerFrom
+  item-before set k none = refl
+  item-before set k (some (l, ts)) = rw (add-assoc set (2 ^ (k - 1)) (setOf l))
+
+  pub all-before : (set : ℕ) (ts : List Token) → behindSet set s c (some ([], ts)) ≡ Items set (placeLeft s c ts)
+  unfolding answerFrom
+  all-before set ts = rw (add-zero set)
 
 -- the bit of a higher item
 pub higher-item : (set above k : ℕ) → set < 2 ^ above → above < k → set + 2 ^ (k - 1) < 2 ^ k

@@ -1,5 +1,5 @@
 -- What is left behind a bundle is the end of the tokens, and where it is left. Assumes nothing.
-use mathlib.Core.Path.{_≡_, refl, ap}
+use mathlib.Core.Path.{_≡_, refl}
 use mathlib.Core.List.{List, [], _∷_, suffix-refl, suffix-cons}
 use mathlib.Core.Option.{Option, none, some}
 use mathlib.Core.Bool.{Bool, true, false, cond, _&&_}
@@ -11,13 +11,12 @@ use Rattle.sheet.specs.Sets.{setOf}
 use Rattle.tokens.specs.Tokens.{Token}
 use Rattle.tokeniser.specs.Places.{tokensAt}
 use Rattle.tokeniser.specs.declared.Cursor.{Cursor}
-use Rattle.tokeniser.proofs.Behind.{Reached, placeLeft-then}
 use Rattle.lexing.specs.Forms.{_>>=_, form, follow}
 use Rattle.lexing.specs.Numbers.{isNumber, digitsAfter}
+use Rattle.lexing.specs.Results.{answerFrom}
 use Rattle.lexing.proofs.readers.Suffixes.{LeavesEnd, end-of-end, then-leaves, follow-leaves}
 use Rattle.lexing.proofs.readers.Places.{ReadTo, read-to}
 use Rattle.bundle_reading.specs.Bundles.{pileEnd, risingItems, bundleAfter}
-use Rattle.bundle_reading.specs.Kept.{mapRead, keptBundle}
 use Rattle.bundle_reading.specs.Results.{bundleFrom}
 use Rattle.bundle_reading.specs.declared.Bundle as bundle
 
@@ -43,40 +42,26 @@ bundleAfter-leaves fs items ts =
     (λ us. then-leaves us (risingItems items 0 us) _ (λ r. r .1) (λ r. r .1) (risingItems-leaves items 0 us)
     (λ r. then-leaves (r .1) (follow (form pileEnd) (r .1)) _ (λ vs. vs) (λ q. q .1) (follow-leaves (form pileEnd) (r .1)) (λ vs. suffix-refl vs)))
 
-pub mapRead-leaves : {A B : Type 0} (f : A → B) (ts : List Token) (o : Option (A × List Token)) → LeavesEnd (λ r. r .1) ts o → LeavesEnd (λ r. r .1) ts (mapRead f o)
-unfolding mapRead
-mapRead-leaves f ts none last = tt
-mapRead-leaves f ts (some r) last = last
+-- what a reader of a bundle has read, where it answers a set
+pub record ReadAsSet (s : List ℕ) (c : Cursor) (o : Option (List ℕ × List Token)) (set : ℕ) (c′ : Cursor) : Type 0 where
+  pub items : List ℕ
+  pub to : ReadTo s c o (λ ts. (items, ts)) c′
+  pub is-set : set ≡ setOf items
 
 -- a bundle is missed, or it is read
 module _ (s : List ℕ) (c : Cursor) where
-  pub bundle-missed : (o : Option (ℕ × List Token)) {r : bundle.Bundle} → r ≡ bundleFrom s c o → r ≡ bundle.the-variants.Missed → o ≡ none
-  unfolding bundleFrom
+  pub bundle-missed : (o : Option (List ℕ × List Token)) {r : bundle.Bundle} → r ≡ bundleFrom s c o → r ≡ bundle.the-variants.Missed → o ≡ none
+  unfolding answerFrom
   bundle-missed none told e = refl
   bundle-missed (some q) told e = cc
 
-  pub bundle-to : (o : Option (ℕ × List Token)) {r : bundle.Bundle} {set : ℕ} {c′ : Cursor} → LeavesEnd (λ q. q .1) (tokensAt s c) o → r ≡ bundleFrom s c o
-      → r ≡ bundle.the-variants.Items set c′ → ReadTo s c o (λ ts. (set, ts)) c′
-  unfolding bundleFrom
+  pub bundle-to : (o : Option (List ℕ × List Token)) {r : bundle.Bundle} {set : ℕ} {c′ : Cursor} → LeavesEnd (λ q. q .1) (tokensAt s c) o → r ≡ bundleFrom s c o
+      → r ≡ bundle.the-variants.Items set c′ → ReadAsSet s c o set c′
+  unfolding answerFrom
   bundle-to none last told e = let z : _≡_ {A = ℕ} 0 1 = cc in absurd (omega arith)
-  bundle-to (some (k, ts)) {set = set} last told e =
-      let same : k ≡ set = cc in
-      rw same (read-to (λ us. (set, us)) last (cc))
+  bundle-to (some (l, ts)) last told e = record { items = l; to = read-to (λ us. (l, us)) last (cc); is-set = cc }
 
-  -- what is kept of a bundle behind a form
-  pub bundleAfter-read : (fs : List Token) (items : ℕ) {r : bundle.Bundle} {set : ℕ} {c′ : Cursor} → r ≡ bundleFrom s c (keptBundle (bundleAfter fs items (tokensAt s c)))
-      → r ≡ bundle.the-variants.Items set c′ → ReadTo s c (keptBundle (bundleAfter fs items (tokensAt s c))) (λ ts. (set, ts)) c′
-  bundleAfter-read fs items told e =
-      bundle-to (keptBundle (bundleAfter fs items (tokensAt s c))) (mapRead-leaves setOf (tokensAt s c) (bundleAfter fs items (tokensAt s c)) (bundleAfter-leaves fs items (tokensAt s c)))
-      told e
-
--- where nothing is read the code's reader misses
-pub bundle-none : (s : List ℕ) (c : Cursor) {o : Option (ℕ × List Token)} → o ≡ none → bundle.the-variants.Missed ≡ bundleFrom s c o
-unfolding bundleFrom
-bundle-none s c e = rw e
-
--- what is read is the same from a place that was reached before
-pub bundle-then : {s : List ℕ} {c c′ : Cursor} (o : Option (ℕ × List Token)) → Reached s c c′ → LeavesEnd (λ q. q .1) (tokensAt s c′) o → bundleFrom s c′ o ≡ bundleFrom s c o
-unfolding bundleFrom
-bundle-then none r last = refl
-bundle-then (some (set, ts)) r last = ap (bundle.the-variants.Items set) (placeLeft-then r last)
+  -- a bundle behind a form
+  pub bundleAfter-read : (fs : List Token) (items : ℕ) {r : bundle.Bundle} {set : ℕ} {c′ : Cursor} → r ≡ bundleFrom s c (bundleAfter fs items (tokensAt s c))
+      → r ≡ bundle.the-variants.Items set c′ → ReadAsSet s c (bundleAfter fs items (tokensAt s c)) set c′
+  bundleAfter-read fs items told e = bundle-to (bundleAfter fs items (tokensAt s c)) (bundleAfter-leaves fs items (tokensAt s c)) told e

@@ -5,7 +5,6 @@ ghost use Rattle.sheet.specs.Limits.{mostItems};
 ghost use Rattle.tokens.specs.Tokens.{tokens};
 ghost use Rattle.tokeniser.specs.Places.{tokensAt};
 ghost use Rattle.bundle_reading.specs.Bundles.{risingItems, bundleAfter};
-ghost use Rattle.bundle_reading.specs.Kept.{keptBundle};
 ghost use Rattle.bundle_reading.specs.Results.{bundleFrom};
 use lexing::forms::Followed;
 use lexing::forms::Number;
@@ -35,7 +34,7 @@ fn set_of_item(item: usize) -> u16
 // The set of items of the sheet that stand here in rising order. No item is above the last, so the loop is left from inside.
 fn rising_items(s: &[u8], c: Cursor, items: usize) -> Bundle
     requires { ⌜ items ≤ mostItems ⌝ }
-    ensures { λ r. ⌜ r ≡ bundleFrom (now (s .entry)) c (keptBundle (risingItems items 0 (tokensAt (now (s .entry)) c))) ⌝ }
+    ensures { λ r. ⌜ r ≡ bundleFrom (now (s .entry)) c (risingItems items 0 (tokensAt (now (s .entry)) c)) ⌝ }
 {
     let mut set: u16 = 0;
     let mut above: usize = 0;
@@ -60,7 +59,7 @@ fn rising_items(s: &[u8], c: Cursor, items: usize) -> Bundle
 
 // A form's text, and then the items of a bundle to its end, for so many items, of no more than a sheet may have.
 pub fn bundle_after(s: &[u8], c: Cursor, form: &[u8], items: usize) -> Bundle
-    ensures { λ r. ⌜ r ≡ bundleFrom (now (s .entry)) c (keptBundle (bundleAfter (tokens (now (form .entry))) (min items mostItems) (tokensAt (now (s .entry)) c))) ⌝ }
+    ensures { λ r. ⌜ r ≡ bundleFrom (now (s .entry)) c (bundleAfter (tokens (now (form .entry))) (min items mostItems) (tokensAt (now (s .entry)) c)) ⌝ }
 {
     let pieces = lesser(items, Sheet::ITEMS);
     let Followed::At(c1) = follow(s, c, form) else {

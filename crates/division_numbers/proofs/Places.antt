@@ -20,7 +20,7 @@ use Rattle.division_numbers.specs.Numbers.{gradeDigits, amounts, head}
 use Rattle.division_numbers.specs.Results.{amountsFrom}
 use Rattle.division_numbers.specs.declared.Amounts as stated
 
-amounts-leave : (ts : List Token) → LeavesEnd (λ r. r .2) ts (amounts ts)
+pub amounts-leave : (ts : List Token) → LeavesEnd (λ r. r .2) ts (amounts ts)
 unfolding amounts
 amounts-leave ts =
     then-leaves ts (numberAfter (form beforeWorth) sumDigits ts) _ (λ r. r .1) (λ r. r .2) (numberAfter-leaves (form beforeWorth) sumDigits ts)

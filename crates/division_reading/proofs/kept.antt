@@ -1,4 +1,3 @@
 -- What is kept of cuts, yard lines and the division while they are read.
 pub mod InTurn
-pub mod YardLine
 pub mod Division

@@ -26,7 +26,11 @@ blankLine = record { bundle = 0; worth = 0; share = 0; cut = zeros mostAgents }
 abbrev pub blankLines : List line.StatedLine
 blankLines = replicate mostAgents blankLine
 
+-- what the lines state, in their places
+abbrev pub keptLines : List StatedLine → List line.StatedLine
+keptLines lines = padded mostAgents blankLine (map keptLine lines)
+
 -- nothing is read, or all that the division states
 abbrev pub kept : Option Stated → stated.Stated
 kept none = record { read = false; grade = 0; lines = blankLines }
-kept (some d) = record { read = true; grade = d .grade; lines = padded mostAgents blankLine (map keptLine (d .lines)) }
+kept (some d) = record { read = true; grade = d .grade; lines = keptLines (d .lines) }

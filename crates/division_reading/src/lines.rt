@@ -1,15 +1,11 @@
 // The lines of the yards of a division.
 ghost use Prim.Native.Nat.{_≤_};
 ghost use mathlib.Core.Path.{_≡_};
-ghost use mathlib.Core.Bool.{false};
 ghost use Rattle.sheet.specs.Limits.{mostAgents, mostItems};
 ghost use Rattle.tokeniser.specs.Places.{tokensAt};
-ghost use Rattle.bundle_reading.specs.Kept.{mapRead, keptBundle};
 ghost use Rattle.bundle_reading.specs.Results.{bundleFrom};
 ghost use Rattle.division_reading.specs.Grammar.{bundleInTurn, cutBundles, yardLine, yardLines};
-ghost use Rattle.division_reading.specs.Outcome.{keptLine};
-ghost use Rattle.division_reading.specs.internal.Kept.{keptCut, keptLines};
-ghost use Rattle.division_reading.specs.internal.Results.{ReadsCut, ReadsLine, ReadsLines};
+ghost use Rattle.division_reading.specs.internal.Results.{cutFrom, unreadLine, lineFrom, linesFrom};
 use crate::StatedLine;
 use crate::blank_line;
 use crate::blank_lines;
@@ -52,7 +48,7 @@ pub struct Lines {
 // (yard 1 (pile 1)
 fn bundle_in_turn(s: &[u8], c: Cursor, turn: usize, items: usize) -> Bundle
     requires { ⌜ items ≤ mostItems ⌝ }
-    ensures { λ r. ⌜ r ≡ bundleFrom (now (s .entry)) c (keptBundle (bundleInTurn items turn (tokensAt (now (s .entry)) c))) ⌝ }
+    ensures { λ r. ⌜ r ≡ bundleFrom (now (s .entry)) c (bundleInTurn items turn (tokensAt (now (s .entry)) c)) ⌝ }
 {
     let Followed::At(next) = follow_number(s, c, &BEFORE_TURN, Sheet::COUNT_DIGITS, turn) else {
         return Bundle::Missed;
@@ -64,7 +60,7 @@ fn bundle_in_turn(s: &[u8], c: Cursor, turn: usize, items: usize) -> Bundle
 fn read_cut(s: &[u8], c: Cursor, agents: usize, items: usize) -> Cut
     requires { ⌜ agents ≤ mostAgents ⌝ }
     requires { ⌜ items ≤ mostItems ⌝ }
-    ensures { λ r. ⌜ ReadsCut (now (s .entry)) r (keptCut (cutBundles agents items (tokensAt (now (s .entry)) c))) ⌝ }
+    ensures { λ r. ⌜ r ≡ cutFrom (now (s .entry)) c (cutBundles agents items (tokensAt (now (s .entry)) c)) ⌝ }
 {
     let mut sets: Sets = [0; Sheet::AGENTS];
     let mut here = c;
@@ -73,8 +69,8 @@ fn read_cut(s: &[u8], c: Cursor, agents: usize, items: usize) -> Cut
         let Bundle::Items(set, next) = bundle_after(s, here, &BEFORE_CUT_PILE, items) else {
             return Cut {
                 read: false,
-                sets,
-                next: here,
+                sets: [0; Sheet::AGENTS],
+                next: Cursor::start(),
             };
         };
         sets[k] = set;
@@ -89,13 +85,13 @@ fn read_cut(s: &[u8], c: Cursor, agents: usize, items: usize) -> Cut
 }
 
 // A line that is not as it should be.
-fn unread(c: Cursor) -> Line
-    ensures { λ r. ⌜ r .read ≡ false ⌝ }
+fn unread() -> Line
+    ensures { λ r. ⌜ r ≡ unreadLine ⌝ }
 {
     Line {
         read: false,
         line: blank_line(),
-        next: c,
+        next: Cursor::start(),
     }
 }
 
@@ -103,21 +99,21 @@ fn unread(c: Cursor) -> Line
 fn yard_line(s: &[u8], c: Cursor, turn: usize, agents: usize, items: usize) -> Line
     requires { ⌜ agents ≤ mostAgents ⌝ }
     requires { ⌜ items ≤ mostItems ⌝ }
-    ensures { λ r. ⌜ ReadsLine (now (s .entry)) r (mapRead keptLine (yardLine agents items turn (tokensAt (now (s .entry)) c))) ⌝ }
+    ensures { λ r. ⌜ r ≡ lineFrom (now (s .entry)) c (yardLine agents items turn (tokensAt (now (s .entry)) c)) ⌝ }
 {
     let Bundle::Items(bundle, c1) = bundle_in_turn(s, c, turn, items) else {
-        return unread(c);
+        return unread();
     };
     let Amounts::Values(worth, share, c2) = read_amounts(s, c1) else {
-        return unread(c);
+        return unread();
     };
     let cut = read_cut(s, c2, agents, items);
     if !cut.read {
-        return unread(c);
+        return unread();
     }
     let c3 = cut.next;
     let Followed::At(c4) = follow(s, c3, &LINE_END) else {
-        return unread(c);
+        return unread();
     };
     let sets = cut.sets;
     Line {
@@ -136,7 +132,7 @@ fn yard_line(s: &[u8], c: Cursor, turn: usize, agents: usize, items: usize) -> L
 pub(crate) fn yard_lines(s: &[u8], c: Cursor, agents: usize, items: usize) -> Lines
     requires { ⌜ agents ≤ mostAgents ⌝ }
     requires { ⌜ items ≤ mostItems ⌝ }
-    ensures { λ r. ⌜ ReadsLines (now (s .entry)) r (keptLines (yardLines agents items (tokensAt (now (s .entry)) c))) ⌝ }
+    ensures { λ r. ⌜ r ≡ linesFrom (now (s .entry)) c (yardLines agents items (tokensAt (now (s .entry)) c)) ⌝ }
 {
     let mut lines = blank_lines();
     let mut here = c;
@@ -147,8 +143,8 @@ pub(crate) fn yard_lines(s: &[u8], c: Cursor, agents: usize, items: usize) -> Li
         if !read.read {
             return Lines {
                 read: false,
-                lines,
-                next: here,
+                lines: blank_lines(),
+                next: Cursor::start(),
             };
         }
         let line = read.line;

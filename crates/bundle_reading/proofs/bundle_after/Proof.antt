@@ -1,22 +1,20 @@
 -- `bundle_after` meets its contract: its parts are read one after another, or one of them is missed. Assumes nothing.
-use mathlib.Core.Path.{_≡_, ap, _∙_}
+use mathlib.Core.Path.{_≡_, ap₂}
 use denote.Ref.{now}
 use Prim.Native.Nat.{min}
 use native.Mathlib.Omega.{arith}
 use borrow.Author.Needs.{needs}
 use Rattle.sheet.specs.Limits.{mostItems}
-use Rattle.sheet.specs.Sets.{setOf}
 use Rattle.tokens.specs.Tokens.{tokens}
 use Rattle.lexing.specs.Forms.{follow}
+use Rattle.lexing.specs.Results.{answerFrom}
 use Rattle.tokeniser.specs.Places.{tokensAt}
 use Rattle.tokeniser.proofs.Behind.{reached-then, reached-place}
 use Rattle.lexing.proofs.readers.Places.{ReadTo, followed-missed, follow-read}
+use Rattle.lexing.proofs.readers.Answers.{answer-none}
 use Rattle.bundle_reading.specs.Bundles.{risingItems, bundleAfter}
-use Rattle.bundle_reading.specs.Kept.{mapRead, keptBundle}
-use Rattle.bundle_reading.specs.Results.{bundleFrom}
 use Rattle.bundle_reading.specs.declared.Bundle.the-variants.{Items}
-use Rattle.bundle_reading.proofs.BundleKept.{bundle-kept}
-use Rattle.bundle_reading.proofs.Places.{risingItems-leaves, mapRead-leaves, bundle-missed, bundle-to, bundle-none}
+use Rattle.bundle_reading.proofs.Places.{ReadAsSet, risingItems-leaves, bundle-missed, bundle-to}
 use Rattle.bundle_reading.proofs.bundle_after.Statement.{statement}
 use Rattle.bundle_reading.proofs.bundle_after.Tie as tie
 
@@ -38,9 +36,9 @@ counted c = c .before .before .before .lesser .ensures
 
 items-read : (c : tie.After-set) → let a = start (form-point c) .args in
     let place = form-point c .c1 .given .0 .0 in
-    ReadTo (now (a .s)) place (keptBundle (risingItems (min (a .items) mostItems) 0 (tokensAt (now (a .s)) place))) (λ ts. (c .set .given .0 .0, ts)) (c .set .given .0 .1 .0)
+    ReadAsSet (now (a .s)) place (risingItems (min (a .items) mostItems) 0 (tokensAt (now (a .s)) place)) (c .set .given .0 .0) (c .set .given .0 .1 .0)
 items-read c =
-    bundle-to _ _ _ (mapRead-leaves setOf _ _ (risingItems-leaves _ 0 _)) (rw (counted (form-point c)) at (c .before .before .rising-items .ensures)) (c .set .given .1)
+    bundle-to _ _ _ (risingItems-leaves _ 0 _) (rw (counted (form-point c)) at (c .before .before .rising-items .ensures)) (c .set .given .1)
 
 lesser-requires : tie.Need-lesser-requires
 lesser-requires c κs = search needs
@@ -55,8 +53,8 @@ enum-told : tie.Need-enum-told
 enum-told c = search needs
 
 returns : tie.Need-returns
-unfolding bundleAfter mapRead bundleFrom
-returns c = rw (followed-missed _ _ _ (c .before .before .follow .ensures) (c .enum-told .given .1))
+unfolding bundleAfter
+returns c = answer-none _ _ _ _ (rw (followed-missed _ _ _ (c .before .before .follow .ensures) (c .enum-told .given .1)))
 
 rising-items-requires : tie.Need-rising-items-requires
 rising-items-requires c κs = omega arith
@@ -68,10 +66,11 @@ enum-told-2 : tie.Need-enum-told-2
 enum-told-2 c = search needs
 
 returns-2 : tie.Need-returns-2
+unfolding bundleAfter
 returns-2 c =
     let followed = c .before .before .before .before in
     let missed = bundle-missed _ _ _ (rw (counted followed) at (c .before .before .rising-items .ensures)) (c .enum-told2 .given .1) in
-    bundle-none _ _ (bundle-kept _ _ _ _ (form-followed followed .read) ∙ rw missed)
+    answer-none _ _ _ _ (rw (form-followed followed .read, missed))
 
 slice-aggregate-follow : tie.Need-slice-aggregate-follow
 slice-aggregate-follow c = search needs
@@ -86,19 +85,20 @@ enum-told-3 : tie.Need-enum-told-3
 enum-told-3 c = search needs
 
 returns-3 : tie.Need-returns-3
+unfolding bundleAfter
 returns-3 c =
     let i = c .before .before .before .before .before in
     let missed = followed-missed _ _ _ (c .before .before .follow2 .ensures) (c .enum-told3 .given .1) in
-    bundle-none _ _ (bundle-kept _ _ _ _ (form-followed (form-point i) .read) ∙ rw (items-read i .read, missed))
+    answer-none _ _ _ _ (rw (form-followed (form-point i) .read, items-read i .to .read, missed))
 
 returns-4 : tie.Need-returns-4
-unfolding bundleFrom
+unfolding bundleAfter answerFrom
 returns-4 c =
     let i = c .before .before .before .before .before .before in
     let front = form-followed (form-point i) in
     let end = follow-read _ _ _ (c .before .before .before .follow2 .ensures) (c .before .c3 .given .1) in
-    rw (bundle-kept _ (min (start (form-point i) .args .items) mostItems) _ _ (front .read), items-read i .read, end .read)
-    (ap (Items (i .set .given .0 .0)) (reached-place (reached-then (front .reached) (reached-then (items-read i .reached) (end .reached)))))
+    rw (front .read, items-read i .to .read, end .read)
+    (ap₂ Items (items-read i .is-set) (reached-place (reached-then (front .reached) (reached-then (items-read i .to .reached) (end .reached)))))
 
 pub bundle-after-spec : {M : Type 1} → statement M
 bundle-after-spec =

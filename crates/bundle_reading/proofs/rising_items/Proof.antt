@@ -1,4 +1,4 @@
--- `rising_items` meets its contract. The loop's invariant: the items still to be read, kept behind those of the set, are the bundle. Assumes nothing.
+-- `rising_items` meets its contract. The loop's invariant: the items still to be read, behind those of the set, are the bundle. Assumes nothing.
 use mathlib.Core.Path.{_≡_, ap, _∙_}
 use denote.Ref.{now}
 use Prim.Native.Nat.{_-_, _^_, _≤_, _<_}
@@ -6,22 +6,21 @@ use native.Mathlib.Omega.{arith}
 use borrow.Author.Needs.{needs}
 use Rattle.sheet.specs.Limits.{countDigits}
 use Rattle.lexing.specs.Numbers.{number}
+use Rattle.lexing.specs.Results.{answerFrom}
 use Rattle.tokeniser.specs.Places.{tokensAt}
 use Rattle.tokeniser.proofs.Behind.{Reached, reached-here, reached-then, reached-place}
 use Rattle.lexing.proofs.readers.Places.{ReadTo, number-missed, number-at-read}
 use Rattle.bundle_reading.specs.Bundles.{risingItems}
-use Rattle.bundle_reading.specs.Kept.{mapRead, keptBundle}
-use Rattle.bundle_reading.specs.internal.Kept.{keptItemsAfter}
 use Rattle.bundle_reading.specs.Results.{bundleFrom}
 use Rattle.bundle_reading.specs.declared.Bundle.the-variants.{Items}
-use Rattle.bundle_reading.proofs.ItemsInTurn.{no-item, item-not-above, item-not-on-sheet, item-rises, none-kept, item-kept, all-kept, higher-item, item-power}
+use Rattle.bundle_reading.proofs.ItemsInTurn.{no-item, item-not-above, item-not-on-sheet, item-rises, behindSet, none-before, item-before, all-before, higher-item, item-power}
 use Rattle.bundle_reading.proofs.rising_items.Statement.{statement}
 use Rattle.bundle_reading.proofs.rising_items.Tie as tie
 
 abbrev Inv-loop : tie.InvT-loop
 Inv-loop s items set₀ above₀ here₀ set above here =
     (above ≤ items) × (set < 2 ^ above) × Reached s here₀ here
-    × (keptBundle (risingItems items 0 (tokensAt s here₀)) ≡ keptItemsAfter set (risingItems items above (tokensAt s here)))
+    × (bundleFrom s here₀ (risingItems items 0 (tokensAt s here₀)) ≡ behindSet set s here₀ (risingItems items above (tokensAt s here)))
 
 abbrev μ-loop : tie.MeasureT-loop
 μ-loop s items set₀ above₀ here₀ set above here = items - above
@@ -35,7 +34,7 @@ item-given : (c : tie.After-number Inv-loop μ-loop) → let s = now (turn c .be
 item-given c = number-at-read _ _ _ (c .before .before .read-number .ensures) (c .number .given .1)
 
 loop-holds : tie.Need-loop-holds Inv-loop μ-loop
-loop-holds c = (omega arith, omega arith, reached-here, none-kept _)
+loop-holds c = (omega arith, omega arith, reached-here, none-before _ _ _)
 
 read-number-requires : tie.Need-read-number-requires Inv-loop μ-loop
 read-number-requires c κs = tt
@@ -47,23 +46,22 @@ enum-told : tie.Need-enum-told Inv-loop μ-loop
 enum-told c = search needs
 
 returns : tie.Need-returns Inv-loop μ-loop
-unfolding bundleFrom
 returns c =
     let l = c .before .before .before .before in
     let missed = number-missed _ _ _ (c .before .before .read-number .ensures) (c .enum-told .given .1) in
-    rw (l .loop .inv .3 ∙ ap (keptItemsAfter (l .loop .set)) (no-item _ _ _ missed) ∙ all-kept _ _) (ap (Items (l .loop .set)) (reached-place (l .loop .inv .2)))
+    rw (l .loop .inv .3 ∙ ap (behindSet (l .loop .set) _ _) (no-item _ _ _ missed) ∙ all-before _ _ _ _) (ap (Items (l .loop .set)) (reached-place (l .loop .inv .2)))
 
 returns-2 : tie.Need-returns-2 Inv-loop μ-loop
-unfolding mapRead bundleFrom
+unfolding answerFrom
 returns-2 c =
     let n = c .before .before in
-    rw (turn n .loop .inv .3 ∙ ap (keptItemsAfter (turn n .loop .set)) (item-not-above _ _ _ _ _ (item-given n .read) (c .if1 .taken)))
+    rw (turn n .loop .inv .3 ∙ ap (behindSet (turn n .loop .set) _ _) (item-not-above _ _ _ _ _ (item-given n .read) (c .if1 .taken)))
 
 returns-3 : tie.Need-returns-3 Inv-loop μ-loop
-unfolding mapRead bundleFrom
+unfolding answerFrom
 returns-3 c =
     let n = c .before .before .before in
-    rw (turn n .loop .inv .3 ∙ ap (keptItemsAfter (turn n .loop .set)) (item-not-on-sheet _ _ _ _ _ (item-given n .read) (c .before .if1 .left) (c .if2 .taken)))
+    rw (turn n .loop .inv .3 ∙ ap (behindSet (turn n .loop .set) _ _) (item-not-on-sheet _ _ _ _ _ (item-given n .read) (c .before .if1 .left) (c .if2 .taken)))
 
 set-of-item-requires : tie.Need-set-of-item-requires Inv-loop μ-loop
 set-of-item-requires c κs = omega arith
@@ -86,7 +84,7 @@ loop-again c =
       rw (c .set-of-item .ensures) (higher-item (l .set) (l .above) k (l .inv .1) (omega arith)),
       reached-then (l .inv .2) (item-given n .reached),
       rw (c .set-of-item .ensures)
-          (l .inv .3 ∙ ap (keptItemsAfter (l .set)) (item-rises _ _ _ _ _ (item-given n .read) (omega arith) (omega arith)) ∙ item-kept (l .set) k _),
+          (l .inv .3 ∙ ap (behindSet (l .set) _ _) (item-rises _ _ _ _ _ (item-given n .read) (omega arith) (omega arith)) ∙ item-before _ _ (l .set) k _),
     )
 
 returns-4 : tie.Need-returns-4 Inv-loop μ-loop

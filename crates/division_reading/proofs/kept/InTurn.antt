@@ -1,39 +1,54 @@
--- What is kept of readings one after another: the next one of a loop. Assumes nothing.
-use mathlib.Core.Path.{_≡_, refl, sym, ap, _∙_}
-use mathlib.Core.List.{List, _∷_}
-use mathlib.Core.Option.{Option, none, some}
-use Prim.Native.Nat.{ℕ, _+_, _-_, _≤_, _<_}
-use native.Mathlib.Numerals.{add-one}
-use lib.ListN.{set}
+-- The loops over the bundles of a cut and over the yard lines, which test nothing, before any is read; and the answers of their functions.
+-- Assumes nothing.
+use mathlib.Core.Path.{_≡_, refl}
+use mathlib.Core.List.{List}
+use mathlib.Core.Bool.{true}
+use Prim.Native.Nat.{ℕ, _≤_}
+use Rattle.lists.specs.Lists.{zeros}
+use Rattle.sheet.specs.Limits.{mostAgents}
+use Rattle.sheet.specs.Sets.{setOf}
 use Rattle.tokens.specs.Tokens.{Token}
-use Rattle.lexing.specs.Forms.{_>>=_, inTurn}
-use Rattle.lexing.proofs.readers.InTurn.{turn-missed, turn-read, turn-none-left}
-use Rattle.bundle_reading.specs.Kept.{mapRead}
-use Rattle.division_reading.specs.internal.Kept.{keptAfter}
-use Rattle.bundle_reading.proofs.MapRead.{read-from, none-read}
+use Rattle.tokeniser.specs.declared.Cursor.{Cursor}
+use Rattle.lexing.specs.Forms.{form}
+use Rattle.lexing.proofs.readers.Answers.{Telling}
+use Rattle.lexing.proofs.readers.Stored.{Storing, storedFrom, none-stored}
+use Rattle.division_reading.specs.DivisionForms.{beforeCutPile}
+use Rattle.division_reading.specs.Stated.{StatedLine}
+use Rattle.division_reading.specs.Grammar.{bundleAfter, cutBundles, yardLine, yardLines}
+use Rattle.division_reading.specs.Outcome.{keptLine, blankLine, blankLines}
+use Rattle.division_reading.specs.internal.Results.{unreadCut, readCut, cutFrom, unreadLine, readLine, unreadLines, readLines, linesFrom}
+use Rattle.division_reading.specs.declared.StatedLine as line
+use Rattle.division_reading.specs.declared.lines.Cut.{Cut}
+use Rattle.division_reading.specs.declared.lines.Lines.{Lines}
 
-module _ {A B : Type 0} (stored : A → B) (k : ℕ) (places : List B) where
-  -- one entry before others
-  kept-cons : (a : A) (o : Option (List A × List Token)) → keptAfter stored k places (o >>= (λ r. some (a ∷ r .0, r .1))) ≡ keptAfter stored (k + 1) (set places k (stored a)) o
-  unfolding mapRead
-  kept-cons a none = refl
-  kept-cons a (some r) = rw (add-one k)
+-- each answer tells whether something is read, and the place behind it
+abbrev pub cutTells : Telling unreadCut readCut
+cutTells = record { isRead = λ r. r .read; next = λ r. r .next; not-read = refl; is-read = λ cut next. refl; is-next = λ cut next. refl }
 
-  -- of n readings the one after i is missed, or it is read, or none is left
-  module _ (reader : ℕ → List Token → Option (A × List Token)) (turn i n : ℕ) (ts : List Token) where
-    pub kept-missed : i < n → mapRead stored (reader turn ts) ≡ none → keptAfter stored k places (inTurn reader turn (n - i) ts) ≡ none
-    unfolding mapRead
-    kept-missed h e = rw (turn-missed reader turn i n ts h (none-read stored (reader turn ts) e))
+abbrev pub lineTells : Telling unreadLine readLine
+lineTells = record { isRead = λ r. r .read; next = λ r. r .next; not-read = refl; is-read = λ line next. refl; is-next = λ line next. refl }
 
-    pub kept-read : (b : B) (ts′ : List Token) → i < n → mapRead stored (reader turn ts) ≡ some (b, ts′)
-        → keptAfter stored k places (inTurn reader turn (n - i) ts) ≡ keptAfter stored (k + 1) (set places k b) (inTurn reader (turn + 1) (n - (i + 1)) ts′)
-    kept-read b ts′ h e =
-        let q = read-from stored (reader turn ts) (b, ts′) e in
-        let later = inTurn reader (turn + 1) (n - (i + 1)) ts′ in
-        ap (keptAfter stored k places) (turn-read reader turn i n ts (q .value) ts′ h (q .read))
-        ∙ kept-cons (q .value) later
-        ∙ ap (λ x. keptAfter stored (k + 1) (set places k x) later) (sym (q .made))
+abbrev pub linesTell : Telling unreadLines readLines
+linesTell = record { isRead = λ r. r .read; next = λ r. r .next; not-read = refl; is-read = λ lines next. refl; is-next = λ lines next. refl }
 
-    pub kept-all : n ≤ i → keptAfter stored k places (inTurn reader turn (n - i) ts) ≡ some (places, ts)
-    unfolding mapRead
-    kept-all h = rw (turn-none-left reader turn i n ts h)
+-- the bundles of a cut
+abbrev pub setsRead : List ℕ → Cursor → Cut
+setsRead sets next = record { read = true; sets = sets; next = next }
+
+abbrev pub cutStored : ℕ → Storing (List ℕ) ℕ Cut
+cutStored items =
+    record { reader = λ number. bundleAfter (form beforeCutPile) items; stored = setOf; test = λ bundle. true; missed = unreadCut; done = λ passed. setsRead }
+
+-- the yard lines
+abbrev pub linesRead : List line.StatedLine → Cursor → Lines
+linesRead lines next = record { read = true; lines = lines; next = next }
+
+abbrev pub linesStored : ℕ → ℕ → Storing StatedLine line.StatedLine Lines
+linesStored agents items = record { reader = yardLine agents items; stored = keptLine; test = λ line. true; missed = unreadLines; done = λ passed. linesRead }
+
+module _ (s : List ℕ) (c : Cursor) (agents items : ℕ) (ts : List Token) (few : agents ≤ mostAgents) where
+  pub no-bundle-stored : cutFrom s c (cutBundles agents items ts) ≡ storedFrom (cutStored items) s c agents 0 (zeros mostAgents) true ts
+  no-bundle-stored = none-stored (cutStored items) s c agents mostAgents 0 ts few
+
+  pub no-line-stored : linesFrom s c (yardLines agents items ts) ≡ storedFrom (linesStored agents items) s c agents 0 blankLines true ts
+  no-line-stored = none-stored (linesStored agents items) s c agents mostAgents blankLine ts few

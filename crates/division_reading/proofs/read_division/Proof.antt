@@ -1,5 +1,6 @@
 -- `read_division` meets its contract: its parts are read one after another, or one of them is missed. Assumes nothing.
 use mathlib.Core.Path.{_≡_, sym, ap, _∙_}
+use mathlib.Core.Bool.{true}
 use mathlib.Core.Option.{some}
 use Prim.Native.Nat.{_≤_}
 use native.Mathlib.Omega.{arith}
@@ -10,14 +11,17 @@ use Rattle.sheet.specs.Limits.{mostAgents, mostItems}
 use Rattle.tokeniser.specs.Places.{tokensAt}
 use Rattle.lexing.specs.Forms.{ended}
 use Rattle.lexing.proofs.readers.Places.{number-missed, followed-missed, followed-to}
+use Rattle.lexing.proofs.readers.Answers.{Told, told-missed, told-read}
 use Rattle.sheet_lines.proofs.Suffixes.{endLine-leaves}
 use Rattle.division_numbers.proofs.Places.{head-read as head-to}
 use Rattle.sheet_lines.specs.Grammar.{endLine}
-use Rattle.division_reading.specs.Grammar.{head, yardLines}
+use Rattle.division_reading.specs.Grammar.{head, yardLines, divisionText, divisionWithin}
 use Rattle.division_reading.specs.Outcome.{kept}
-use Rattle.division_reading.specs.internal.Kept.{keptLines}
+use Rattle.division_reading.specs.declared.Stated.{Stated}
+use Rattle.division_reading.proofs.Suffixes.{yardLines-leave}
 use Rattle.division_reading.proofs.Shape.{grade-below}
-use Rattle.division_reading.proofs.kept.Division.{too-many-agents, too-many-items, head-missed, lines-missed, end-missed, division-read}
+use Rattle.division_reading.proofs.kept.InTurn.{linesTell}
+use Rattle.division_reading.proofs.kept.Division.{too-many-agents, too-many-items, divisionWithin-text}
 use Rattle.division_reading.proofs.read_division.Statement.{statement}
 use Rattle.division_reading.proofs.read_division.Tie as tie
 
@@ -41,6 +45,12 @@ few-agents c = omega arith
 few-items : (c : tie.Else2) → start c .args .items ≤ mostItems
 few-items c = omega arith
 
+-- the division is what its text says
+text-within : (c : tie.Else2) → let a = start c .args in
+    let ts = tokensAt (now (a .s)) (a .c) in
+    divisionWithin (a .agents) (a .items) ts ≡ divisionText (a .agents) (a .items) ts
+text-within c = divisionWithin-text _ _ _ (few-agents c) (few-items c)
+
 -- what each part says where it has been read
 head-read : (c : tie.After-grade) → let a = start (counts-point c) .args in
     head (a .agents) (a .items) (tokensAt (now (a .s)) (a .c)) ≡ some (c .grade .given .0 .0, tokensAt (now (a .s)) (c .grade .given .0 .1 .0))
@@ -48,9 +58,9 @@ head-read c = head-to _ _ _ _ (c .before .before .read-head .ensures) (c .grade 
 
 lines-read : (c : tie.Else3) → let h = head-point c in
     let a = start (counts-point h) .args in
-    let read = c .before .before .yard-lines .result in
-    keptLines (yardLines (a .agents) (a .items) (tokensAt (now (a .s)) (h .grade .given .0 .1 .0))) ≡ some (read .lines, tokensAt (now (a .s)) (read .next))
-lines-read c = rw (not-false (c .before .before .yard-lines .result .read) (c .if3 .left)) at (c .before .before .yard-lines .ensures)
+    let place = h .grade .given .0 .1 .0 in
+    Told linesTell (now (a .s)) place (yardLines (a .agents) (a .items) (tokensAt (now (a .s)) place)) (c .before .before .yard-lines .result)
+lines-read c = told-read linesTell _ _ _ (yardLines-leave _ _ _) (c .before .before .yard-lines .ensures) (not-false (c .before .before .yard-lines .result .read) (c .if3 .left))
 
 text-ended : (c : tie.After-enum-told2) → let l = lines-point c in
     let s = now (start (counts-point (head-point l)) .args .s) in
@@ -82,11 +92,11 @@ unread-requires-3 : tie.Need-unread-requires-3
 unread-requires-3 c κs = search needs
 
 returns-3 : tie.Need-returns-3
+unfolding divisionText
 returns-3 c =
     let read = c .before .before .before in
-    let counts = read .before in
     let missed = number-missed _ _ _ (read .read-head .ensures) (c .before .enum-told .given .1) in
-    c .unread3 .ensures ∙ ap kept (sym (head-missed _ _ _ (few-agents counts) (few-items counts) missed))
+    rw (text-within (read .before), missed) (c .unread3 .ensures)
 
 yard-lines-requires : tie.Need-yard-lines-requires
 yard-lines-requires c κs = search needs
@@ -95,12 +105,12 @@ unread-requires-4 : tie.Need-unread-requires-4
 unread-requires-4 c κs = search needs
 
 returns-4 : tie.Need-returns-4
+unfolding divisionText
 returns-4 c =
     let read = c .before .before .before in
     let h = read .before .before in
-    let counts = counts-point h in
-    let missed = rw (not-true (read .yard-lines .result .read) (c .before .if3 .taken)) at (read .yard-lines .ensures) in
-    c .unread4 .ensures ∙ ap kept (sym (lines-missed _ _ _ (few-agents counts) (few-items counts) _ _ (head-read h) missed))
+    let missed = told-missed linesTell _ _ _ (read .yard-lines .ensures) (not-true (read .yard-lines .result .read) (c .before .if3 .taken)) in
+    rw (text-within (counts-point h), head-read h, missed) (c .unread4 .ensures)
 
 end-line-requires : tie.Need-end-line-requires
 end-line-requires c κs = search needs
@@ -115,12 +125,13 @@ unread-requires-5 : tie.Need-unread-requires-5
 unread-requires-5 c κs = search needs
 
 returns-5 : tie.Need-returns-5
+unfolding divisionText
 returns-5 c =
     let ended = c .before .before .before in
     let l = ended .before .before in
-    let counts = counts-point (head-point l) in
+    let h = head-point l in
     let missed = followed-missed _ _ _ (ended .end-line .ensures) (c .before .enum-told3 .given .1) in
-    c .unread5 .ensures ∙ ap kept (sym (end-missed _ _ _ (few-agents counts) (few-items counts) _ _ (head-read (head-point l)) _ _ (lines-read l) missed))
+    rw (text-within (counts-point h), head-read h, lines-read l .to .read, missed) (c .unread5 .ensures)
 
 cast-t13 : tie.Need-cast-t13
 cast-t13 c =
@@ -130,11 +141,12 @@ cast-t13 c =
     omega (arith, small)
 
 returns-6 : tie.Need-returns-6
+unfolding divisionText
 returns-6 c =
-    let e = c .before in
-    let l = lines-point e in
-    let counts = counts-point (head-point l) in
-    division-read _ _ _ (few-agents counts) (few-items counts) _ _ (head-read (head-point l)) _ _ (lines-read l) _ (text-ended e)
+    let l = lines-point (c .before) in
+    let h = head-point l in
+    rw (text-within (counts-point h), head-read h, lines-read l .to .read, text-ended (c .before))
+    (ap {B = Stated} (λ r. record { read = true; grade = h .grade .given .0 .0; lines = r .lines }) (lines-read l .is-made))
 
 pub read-division-spec : {M : Type 1} → statement M
 read-division-spec =

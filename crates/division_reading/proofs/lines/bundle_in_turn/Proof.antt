@@ -4,11 +4,10 @@ use Prim.Native.Nat.{min}
 use native.Mathlib.Omega.{arith}
 use borrow.Author.Needs.{needs}
 use Rattle.sheet.specs.Limits.{mostItems}
-use Rattle.sheet.specs.Sets.{setOf}
 use Rattle.lexing.proofs.readers.Places.{followed-missed, followNumber-read}
+use Rattle.lexing.proofs.readers.Answers.{answer-none, answer-then}
 use Rattle.division_reading.specs.Grammar.{bundleInTurn}
-use Rattle.bundle_reading.specs.Kept.{mapRead}
-use Rattle.bundle_reading.proofs.Places.{bundleAfter-leaves, mapRead-leaves, bundle-none, bundle-then}
+use Rattle.bundle_reading.proofs.Places.{bundleAfter-leaves}
 use Rattle.division_reading.proofs.lines.bundle_in_turn.Statement.{statement}
 use Rattle.division_reading.proofs.lines.bundle_in_turn.Tie as tie
 
@@ -25,8 +24,8 @@ enum-told : tie.Need-enum-told
 enum-told c = search needs
 
 returns : tie.Need-returns
-unfolding bundleInTurn mapRead
-returns c = bundle-none _ _ (rw (followed-missed _ _ _ (c .before .before .follow-number .ensures) (c .enum-told .given .1)))
+unfolding bundleInTurn
+returns c = answer-none _ _ _ _ (rw (followed-missed _ _ _ (c .before .before .follow-number .ensures) (c .enum-told .given .1)))
 
 slice-aggregate-bundle-after : tie.Need-slice-aggregate-bundle-after
 slice-aggregate-bundle-after c = search needs
@@ -41,7 +40,7 @@ returns-2 c =
     let a = followed .before .before .before .args in
     let h = followNumber-read _ _ _ _ _ (followed .follow-number .ensures) (c .before .before .before .next .given .1) in
     let few : min (a .items) mostItems ≡ a .items = omega arith in
-    rw (h .read) ((rw few at (c .bundle-after .ensures)) ∙ bundle-then _ (h .reached) (mapRead-leaves setOf _ _ (bundleAfter-leaves _ _ _)))
+    rw (h .read) ((rw few at (c .bundle-after .ensures)) ∙ answer-then _ _ _ (h .reached) (bundleAfter-leaves _ _ _))
 
 pub bundle-in-turn-spec : {M : Type 1} → statement M
 bundle-in-turn-spec =

@@ -1,33 +1,33 @@
--- `lines::read_cut` meets its contract. The loop's invariant: the bundles still due, kept behind those in their places, are the cut. Assumes nothing.
-use mathlib.Core.Path.{_≡_, refl, _∙_}
-use Prim.Native.Nat.{_≤_, _+_, _-_, min}
-use native.Mathlib.Nat.{sub-zero}
+-- `lines::read_cut` meets its contract. The loop's invariant: the bundles still due, behind those in their places, are the cut. Assumes nothing.
+use mathlib.Core.Path.{_≡_, refl, sym, ap, _∙_}
+use mathlib.Core.Bool.{true, false}
+use Prim.Native.Nat.{_≤_, _-_, min}
 use native.Mathlib.Omega.{arith}
 use borrow.Author.Needs.{needs}
 use lib.ListN.{length, length-set}
 use Rattle.sheet.specs.Limits.{mostAgents, mostItems}
-use Rattle.sheet.specs.Sets.{setOf}
-use Rattle.lexing.specs.Forms.{form, inTurn}
+use Rattle.lists.specs.Lists.{zeros}
 use Rattle.tokeniser.specs.Places.{tokensAt}
+use Rattle.tokeniser.proofs.Behind.{Reached, reached-here, reached-then, reached-place}
+use Rattle.lexing.proofs.readers.Stored.{storedFrom, next-missed, next-stored, all-stored}
 use Rattle.bundle_reading.proofs.Places.{bundle-missed, bundleAfter-read}
-use Rattle.division_reading.specs.DivisionForms.{beforeCutPile}
-use Rattle.division_reading.specs.Grammar.{bundleAfter, cutBundles}
-use Rattle.division_reading.specs.internal.Kept.{keptAfter, keptCut}
-use Rattle.division_reading.proofs.kept.InTurn.{kept-missed, kept-read, kept-all}
+use Rattle.division_reading.specs.Grammar.{cutBundles}
+use Rattle.division_reading.specs.internal.Results.{cutFrom}
+use Rattle.division_reading.specs.declared.lines.Cut.{Cut}
+use Rattle.division_reading.proofs.kept.InTurn.{setsRead, cutStored, no-bundle-stored}
 use Rattle.division_reading.proofs.lines.read_cut.Statement.{statement}
 use Rattle.division_reading.proofs.lines.read_cut.Tie as tie
 
 abbrev Inv-loop : tie.InvT-loop
 Inv-loop s agents items sets₀ here₀ k₀ text sets here k =
-    (k ≤ agents) × (length sets ≡ mostAgents)
-    × (keptCut (cutBundles agents items (tokensAt s here₀))
-    ≡ keptAfter setOf k sets (inTurn (λ number. bundleAfter (form beforeCutPile) items) (k + 1) (agents - k) (tokensAt s here)))
+    (k ≤ agents) × (length sets ≡ mostAgents) × Reached s here₀ here
+    × (cutFrom s here₀ (cutBundles agents items (tokensAt s here₀)) ≡ storedFrom (cutStored items) s here₀ agents k sets true (tokensAt s here))
 
 abbrev μ-loop : tie.MeasureT-loop
 μ-loop s agents items sets₀ here₀ k₀ text sets here k = agents - k
 
 loop-holds : tie.Need-loop-holds Inv-loop μ-loop
-loop-holds c = (omega arith, refl, rw sub-zero)
+loop-holds c = (omega arith, refl, reached-here, no-bundle-stored _ _ _ _ _ (c .before .pre .0))
 
 slice-aggregate-bundle-after : tie.Need-slice-aggregate-bundle-after Inv-loop μ-loop
 slice-aggregate-bundle-after c = search needs
@@ -43,12 +43,17 @@ enum-told c = search needs
 
 returns : tie.Need-returns Inv-loop μ-loop
 returns c =
-    let read = c .before .before in
+    let read = c .before .before .before in
     let turn = read .before .before in
     let a = turn .before .before .before .args in
     let few : min (a .items) mostItems ≡ a .items = omega arith in
-    turn .before .loop .inv .2
-    ∙ kept-missed _ _ _ _ _ _ _ _ (turn .loop-test .taken) (bundle-missed _ _ _ (rw few at (read .bundle-after .ensures)) (c .enum-told .given .1))
+    let missed = bundle-missed _ _ _ (rw few at (read .bundle-after .ensures)) (c .before .enum-told .given .1) in
+    ap {B = Cut} (λ next. record { read = false; sets = zeros mostAgents; next = next }) (c .start .ensures)
+    ∙ next-missed (cutStored _) _ _ _ _ _ _ _ (turn .loop-test .taken) missed
+    ∙ sym (turn .before .loop .inv .3)
+
+start-requires : tie.Need-start-requires Inv-loop μ-loop
+start-requires c κs = tt
 
 mul-sets : tie.Need-mul-sets Inv-loop μ-loop
 mul-sets c = omega arith
@@ -67,15 +72,18 @@ loop-again c =
     let read = c .before .before .before in
     let turn = read .before .before in
     let a = turn .before .before .before .args in
-    let few : min (a .items) mostItems ≡ a .items = omega arith in (
+    let few : min (a .items) mostItems ≡ a .items = omega arith in
+    let bundle = bundleAfter-read _ _ _ _ (rw few at (read .bundle-after .ensures)) (c .before .set .given .1) in (
       omega arith,
       simp length-set (turn .before .loop .inv .1),
-      turn .before .loop .inv .2
-          ∙ kept-read _ _ _ _ _ _ _ _ _ _ (turn .loop-test .taken) (bundleAfter-read _ _ _ _ (rw few at (read .bundle-after .ensures)) (c .before .set .given .1) .read),
+      reached-then (turn .before .loop .inv .2) (bundle .to .reached),
+      rw (bundle .is-set) (turn .before .loop .inv .3 ∙ next-stored (cutStored _) _ _ _ _ _ _ _ _ _ (turn .loop-test .taken) (bundle .to .read)),
     )
 
 returns-2 : tie.Need-returns-2 Inv-loop μ-loop
-returns-2 c = c .before .loop .inv .2 ∙ kept-all _ _ _ _ _ _ _ _ (c .loop-test .left)
+returns-2 c =
+    let loop = c .before .loop in
+    ap (setsRead (loop .sets)) (reached-place (loop .inv .2)) ∙ all-stored (cutStored _) _ _ _ _ _ _ _ (c .loop-test .left) ∙ sym (loop .inv .3)
 
 pub read-cut-spec : {M : Type 1} → statement M
 read-cut-spec =
@@ -88,6 +96,7 @@ read-cut-spec =
     bundle-after-requires
     enum-known-set
     enum-told
+    start-requires
     returns
     mul-sets
     array-write-sets

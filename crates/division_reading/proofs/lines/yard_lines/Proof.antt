@@ -1,24 +1,27 @@
--- `lines::yard_lines` meets its contract. The loop's invariant: the lines still due, kept behind those in their places, are what is to be read. Assumes nothing.
-use mathlib.Core.Path.{_≡_, ap, _∙_}
-use Prim.Native.Nat.{_≤_, _+_, _-_}
-use native.Mathlib.Nat.{sub-zero}
+-- `lines::yard_lines` meets its contract. The loop's invariant: the lines still due, behind those in their places, are what is to be read. Assumes nothing.
+use mathlib.Core.Path.{_≡_, sym, ap, ap₂, _∙_}
+use mathlib.Core.Bool.{true, false}
+use Prim.Native.Nat.{_≤_, _-_}
 use native.Mathlib.Omega.{arith}
 use borrow.Author.Tests.{not-true, not-false}
 use lib.ListN.{length, length-set}
 use Rattle.sheet.specs.Limits.{mostAgents}
-use Rattle.lexing.specs.Forms.{inTurn}
 use Rattle.tokeniser.specs.Places.{tokensAt}
-use Rattle.division_reading.specs.Grammar.{yardLine, yardLines}
-use Rattle.division_reading.specs.Outcome.{keptLine}
-use Rattle.division_reading.specs.internal.Kept.{keptAfter, keptLines}
-use Rattle.division_reading.proofs.kept.InTurn.{kept-missed, kept-read, kept-all}
+use Rattle.tokeniser.proofs.Behind.{Reached, reached-here, reached-then, reached-place}
+use Rattle.lexing.proofs.readers.Answers.{told-missed, told-read}
+use Rattle.lexing.proofs.readers.Stored.{storedFrom, next-missed, next-stored, all-stored}
+use Rattle.division_reading.specs.Grammar.{yardLines}
+use Rattle.division_reading.specs.internal.Results.{linesFrom}
+use Rattle.division_reading.specs.declared.lines.Lines.{Lines}
+use Rattle.division_reading.proofs.Suffixes.{yardLine-leaves}
+use Rattle.division_reading.proofs.kept.InTurn.{lineTells, linesRead, linesStored, no-line-stored}
 use Rattle.division_reading.proofs.lines.yard_lines.Statement.{statement}
 use Rattle.division_reading.proofs.lines.yard_lines.Tie as tie
 
 abbrev Inv-loop : tie.InvT-loop
 Inv-loop s agents items lines₀ here₀ k₀ lines here k =
-    (k ≤ agents) × (length lines ≡ mostAgents)
-    × (keptLines (yardLines agents items (tokensAt s here₀)) ≡ keptAfter keptLine k lines (inTurn (yardLine agents items) (k + 1) (agents - k) (tokensAt s here)))
+    (k ≤ agents) × (length lines ≡ mostAgents) × Reached s here₀ here
+    × (linesFrom s here₀ (yardLines agents items (tokensAt s here₀)) ≡ storedFrom (linesStored agents items) s here₀ agents k lines true (tokensAt s here))
 
 abbrev μ-loop : tie.MeasureT-loop
 μ-loop s agents items lines₀ here₀ k₀ lines here k = agents - k
@@ -27,7 +30,7 @@ blank-lines-requires : tie.Need-blank-lines-requires Inv-loop μ-loop
 blank-lines-requires c κs = tt
 
 loop-holds : tie.Need-loop-holds Inv-loop μ-loop
-loop-holds c = (omega arith, ap length (c .blank-lines .ensures), rw (c .blank-lines .ensures, sub-zero))
+loop-holds c = (omega arith, ap length (c .blank-lines .ensures), reached-here, rw (c .blank-lines .ensures) (no-line-stored _ _ _ _ _ (c .before .before .pre .0)))
 
 add-yard-line : tie.Need-add-yard-line Inv-loop μ-loop
 add-yard-line c = omega arith
@@ -37,10 +40,17 @@ yard-line-requires c κs = omega arith
 
 returns : tie.Need-returns Inv-loop μ-loop
 returns c =
-    let line = c .before .before .before in
-    let loop = line .before .before in
-    let missed = rw (not-true (line .yard-line .result .read) (c .if1 .taken)) at (line .yard-line .ensures) in
-    loop .loop .inv .2 ∙ kept-missed _ _ _ _ _ _ _ _ (line .before .loop-test .taken) missed
+    let line = c .before .before .before .before .before in
+    let missed = told-missed lineTells _ _ _ (line .yard-line .ensures) (not-true (line .yard-line .result .read) (c .before .before .if1 .taken)) in
+    ap₂ {C = Lines} (λ lines next. record { read = false; lines = lines; next = next }) (c .before .blank-lines2 .ensures) (c .start .ensures)
+    ∙ next-missed (linesStored _ _) _ _ _ _ _ _ _ (line .before .loop-test .taken) missed
+    ∙ sym (line .before .before .loop .inv .3)
+
+blank-lines-requires-2 : tie.Need-blank-lines-requires-2 Inv-loop μ-loop
+blank-lines-requires-2 c κs = tt
+
+start-requires : tie.Need-start-requires Inv-loop μ-loop
+start-requires c κs = tt
 
 mul-lines : tie.Need-mul-lines Inv-loop μ-loop
 mul-lines c = omega arith
@@ -58,14 +68,18 @@ loop-again : tie.Need-loop-again Inv-loop μ-loop
 loop-again c =
     let line = c .before .before .before .before in
     let loop = line .before .before in
-    let read = rw (not-false (line .yard-line .result .read) (c .before .if1 .left)) at (line .yard-line .ensures) in (
+    let e = not-false (line .yard-line .result .read) (c .before .if1 .left) in
+    let read = told-read lineTells _ _ _ (yardLine-leaves _ _ _ _) (line .yard-line .ensures) e in (
       omega arith,
       simp length-set (loop .loop .inv .1),
-      loop .loop .inv .2 ∙ kept-read _ _ _ _ _ _ _ _ _ _ (line .before .loop-test .taken) read,
+      reached-then (loop .loop .inv .2) (read .to .reached),
+      rw (read .is-made) (loop .loop .inv .3 ∙ next-stored (linesStored _ _) _ _ _ _ _ _ _ _ _ (line .before .loop-test .taken) (read .to .read)),
     )
 
 returns-2 : tie.Need-returns-2 Inv-loop μ-loop
-returns-2 c = c .before .loop .inv .2 ∙ kept-all _ _ _ _ _ _ _ _ (c .loop-test .left)
+returns-2 c =
+    let loop = c .before .loop in
+    ap (linesRead (loop .lines)) (reached-place (loop .inv .2)) ∙ all-stored (linesStored _ _) _ _ _ _ _ _ _ (c .loop-test .left) ∙ sym (loop .inv .3)
 
 pub yard-lines-spec : {M : Type 1} → statement M
 yard-lines-spec =
@@ -77,6 +91,8 @@ yard-lines-spec =
     loop-holds
     add-yard-line
     yard-line-requires
+    blank-lines-requires-2
+    start-requires
     returns
     mul-lines
     array-set-from-lines
