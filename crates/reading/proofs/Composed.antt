@@ -21,17 +21,6 @@ module _ {B : Type 0} (next : Contents → Answer B) where
   pub refused-read : (text : List ℕ) {found : Outcome} → found ≡ outcome (reading text) → {number : ℕ} → found .answer ≡ Refused number → andThen (reading text) next ≡ refused number
   refused-read text read {number} e = refused-outcome (reading text) number (sym (ap (λ o. o .answer) read) ∙ e)
 
--- a sheet with these counts and this table, whatever else it carries
-pub record HasTable (counts : Sheet) (table : List (List ℕ)) (sheet : Contents) : Type 0 where
-  pub agents-are : sheet .agents ≡ counts .agents
-  pub items-are : sheet .items ≡ counts .items
-  pub table-is : sheet .table ≡ table
-
-pub accepted-has-table : (sheet : Contents) {counts : Sheet} → outcome (accepted sheet) .answer ≡ Accepted counts → HasTable counts (tableIn (outcome (accepted sheet) .rows)) sheet
-accepted-has-table sheet {counts} e =
-    let same : record { agents = sheet .agents; items = sheet .items } ≡ counts = cc in
-    record { agents-are = ap (λ c. c .agents) same; items-are = ap (λ c. c .items) same; table-is = sym (tableIn-accepted sheet) }
-
 -- the sheet of an outcome is what its answer and its rows carry
 pub accepted-contents : (sheet : Contents) {counts : Sheet} → outcome (accepted sheet) .answer ≡ Accepted counts → sheet ≡ contents counts (tableIn (outcome (accepted sheet) .rows))
 accepted-contents sheet {counts} e =
