@@ -66,7 +66,7 @@ same-items c i mi =
 assessed-told : (c : tie.After-figures-true) → let s = start c in at-assess c .assess .result ≡ assessed (assessmentByTerms (sheetIn s) (s .args .terms) (bundlesOf (division c)))
 assessed-told c =
     let s = start c in
-    at-assess c .assess .ensures .0
+    at-assess c .assess .ensures
     ∙ ap assessed (assessmentIn-by-terms {sheet = sheetIn s} (s .pre .0) (s .args .terms) (s .pre .1) (sets c .bundles-of .result) (bundlesOf (division c)) (same-items c))
 
 -- the margins
