@@ -16,7 +16,7 @@ module _ (oldGrade : ℕ) (oldBundles oldCutters : List ℕ) where
   lent-refused (accepted d) number e = (cc, cc, cc, cc)
 
   -- a division answers 0, and the places hold its grade, the bundles and the cutters
-  pub lent-divided : (a : Answer Division) (grade : ℕ) → outcome a .answer ≡ Divided grade
-      → (0 ≡ numberOf a) × (grade ≡ after storeGrade a oldGrade) × (outcome a .bundles ≡ after storeBundles a oldBundles) × (outcome a .cutters ≡ after storeCutters a oldCutters)
-  lent-divided (refused n) grade e = (cc, cc, cc, cc)
-  lent-divided (accepted d) grade e = (refl, cc, refl, refl)
+  pub lent-divided : (a : Answer Division) → outcome a .answer ≡ Divided
+      → (0 ≡ numberOf a) × (outcome a .grade ≡ after storeGrade a oldGrade) × (outcome a .bundles ≡ after storeBundles a oldBundles) × (outcome a .cutters ≡ after storeCutters a oldCutters)
+  lent-divided (refused n) e = (cc, cc, cc, cc)
+  lent-divided (accepted d) e = (refl, refl, refl, refl)

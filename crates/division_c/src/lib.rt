@@ -1,5 +1,6 @@
 // Dividing a table for callers in C or Rust, by C's calling convention.
 ghost use mathlib.Core.Path.{_≡_};
+ghost use Rattle.sheet.specs.Contents.{sheetOf};
 ghost use Rattle.sheet.specs.Answers.{numberOf, after};
 ghost use Rattle.rounds.specs.Division.{answer};
 ghost use Rattle.division_c.specs.Lent.{storeGrade, storeBundles, storeCutters};
@@ -19,19 +20,19 @@ pub extern "C" fn divide_table(
     bundles: &mut [u16; Sheet::AGENTS],
     cutters: &mut [u8; Sheet::AGENTS],
 ) -> u8
-    ensures answer { λ r. ⌜ r ≡ numberOf (answer agents items (now (table .entry)) allowance) ⌝ }
-    ensures grade { λ r. ⌜ now (grade .exit) ≡ after storeGrade (answer agents items (now (table .entry)) allowance) (now (grade .entry)) ⌝ }
-    ensures bundles { λ r. ⌜ now (bundles .exit) ≡ after storeBundles (answer agents items (now (table .entry)) allowance) (now (bundles .entry)) ⌝ }
-    ensures cutters { λ r. ⌜ now (cutters .exit) ≡ after storeCutters (answer agents items (now (table .entry)) allowance) (now (cutters .entry)) ⌝ }
+    ensures answer { λ r. ⌜ r ≡ numberOf (answer (sheetOf agents items (now (table .entry))) allowance) ⌝ }
+    ensures grade { λ r. ⌜ now (grade .exit) ≡ after storeGrade (answer (sheetOf agents items (now (table .entry))) allowance) (now (grade .entry)) ⌝ }
+    ensures bundles { λ r. ⌜ now (bundles .exit) ≡ after storeBundles (answer (sheetOf agents items (now (table .entry))) allowance) (now (bundles .entry)) ⌝ }
+    ensures cutters { λ r. ⌜ now (cutters .exit) ≡ after storeCutters (answer (sheetOf agents items (now (table .entry))) allowance) (now (cutters .entry)) ⌝ }
 {
-    let outcome = division::divide(*table, agents, items, allowance);
+    let outcome = division::divide(*table, Sheet { agents, items }, allowance);
     let answer = outcome.answer;
     match answer {
         Answer::Refused(number) => number,
-        Answer::Divided(reached) => {
+        Answer::Divided => {
             let given = outcome.bundles;
             let cut_by = outcome.cutters;
-            *grade = reached;
+            *grade = outcome.grade;
             *bundles = given;
             *cutters = cut_by;
             0
