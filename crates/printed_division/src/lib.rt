@@ -12,6 +12,7 @@ use printed_lines::put_yard;
 use sheet::Sheet;
 use sheet::Table;
 use sheet::lesser;
+use sheet::valuing::value_of;
 use writing::put_bytes;
 
 // The lines of all agents.
@@ -33,6 +34,7 @@ fn put_yards(
     let mut i: usize = 0;
     while i < agents {
         let marks = table[i];
+        let worth = value_of(marks, bundles[i]);
         let cut = cuts[i];
         let partition = cut.partition;
         next = put_yard(
@@ -41,8 +43,8 @@ fn put_yards(
             agents,
             items,
             i + 1,
-            marks,
             bundles[i],
+            worth,
             shares[i],
             partition,
         );

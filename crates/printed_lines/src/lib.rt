@@ -2,7 +2,6 @@
 ghost use Prim.Native.Nat.{min};
 ghost use Rattle.sheet.specs.Limits.{mostAgents, mostItems};
 ghost use Rattle.sheet.specs.Sets.{itemsOf};
-ghost use Rattle.sheet.specs.Valuations.{value};
 ghost use Rattle.bundling.specs.Bundles.{allBundles};
 ghost use Rattle.writing.specs.Output.{output, Written};
 ghost use Rattle.printed_lines.specs.PrintedLines.{headLine, pileGroup, amounts, yardLine, cuttersLine};
@@ -10,11 +9,9 @@ ghost use Rattle.printed_lines.specs.BeforeZero.{beforeZero};
 use crate::cuts::put_cut;
 use crate::cutters::rounds_of;
 use cut::Partition;
-use sheet::Row;
 use sheet::Sheet;
 use sheet::lesser;
 use sheet::naming::items_of;
-use sheet::valuing::value_of;
 use writing::put;
 use writing::put_bytes;
 use writing::put_field;
@@ -54,26 +51,25 @@ fn put_amounts(buffer: &mut [u8], at: usize, worth: u64, share: u64) -> usize
     put(buffer, shared, b')')
 }
 
-// The line of one agent: its bundle, the worth of that by its marks, its share and its cut. Counts beyond the limits are cut to
-// them.
+// The line of one agent: its bundle, the worth of that, its share and its cut. Counts beyond the limits are cut to them.
 pub fn put_yard(
     buffer: &mut [u8],
     at: usize,
     agents: usize,
     items: usize,
     agent: usize,
-    marks: Row,
     pile: u16,
+    worth: u64,
     share: u64,
     partition: Partition,
 ) -> usize
-    ensures { λ r. ⌜ Written (output (now (buffer .entry)) at) (yardLine agent (itemsOf pile) (value marks (itemsOf pile)) share (allBundles (min agents mostAgents) (min items mostItems) partition)) (output (now (buffer .exit)) r) ⌝ }
+    ensures { λ r. ⌜ Written (output (now (buffer .entry)) at) (yardLine agent (itemsOf pile) worth share (allBundles (min agents mostAgents) (min items mostItems) partition)) (output (now (buffer .exit)) r) ⌝ }
 {
     let yards = lesser(agents, Sheet::AGENTS);
     let pieces = lesser(items, Sheet::ITEMS);
     let numbered = put_field(buffer, at, b"(yard ", agent as u64);
     let piled = put_pile(buffer, numbered, pile);
-    let valued = put_amounts(buffer, piled, value_of(marks, pile), share);
+    let valued = put_amounts(buffer, piled, worth, share);
     let cut = put_cut(buffer, valued, yards, pieces, partition);
     put_bytes(buffer, cut, b")\n")
 }

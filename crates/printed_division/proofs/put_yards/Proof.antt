@@ -35,6 +35,15 @@ mul-marks c = omega arith
 array-copy-out-marks : tie.Need-array-copy-out-marks Inv-loop μ-loop
 array-copy-out-marks c = omega arith
 
+mul-value-of : tie.Need-mul-value-of Inv-loop μ-loop
+mul-value-of c = omega arith
+
+array-read-value-of : tie.Need-array-read-value-of Inv-loop μ-loop
+array-read-value-of c = omega arith
+
+value-of-requires : tie.Need-value-of-requires Inv-loop μ-loop
+value-of-requires c κs = tt
+
 mul-cut : tie.Need-mul-cut Inv-loop μ-loop
 mul-cut c = omega arith
 
@@ -61,15 +70,16 @@ put-yard-requires c κs = tt
 
 -- the line of the next agent is written
 line-written : (c : tie.After-put-yard Inv-loop μ-loop)
-    → let at-loop = c .before .before .before .before .before .before in
+    → let at-loop = c .before .before .before .before .before .before .before in
     let l = at-loop .loop in
     Written (output (l .buffer) (l .next)) (lineOf at-loop (l .i + 1)) (output (c .put-yard .last .0) (c .put-yard .result))
 line-written c =
-    let at-loop = c .before .before .before .before .before .before in
+    let at-loop = c .before .before .before .before .before .before .before in
     let a = at-loop .before .before .before .before .before .args in
     let few : min (a .agents) mostAgents ≡ a .agents = omega arith in
     let few-items : min (a .items) mostItems ≡ a .items = omega arith in
-    rw (outcomeLine-next (a .agents) (a .items) (a .t5) (a .outcome .bundles) (a .outcome .shares) (a .outcome .cuts) (at-loop .loop .i)) (rw (few, few-items) at (c .put-yard .ensures))
+    rw (outcomeLine-next (a .agents) (a .items) (a .t5) (a .outcome .bundles) (a .outcome .shares) (a .outcome .cuts) (at-loop .loop .i))
+    (rw (few, few-items, c .before .before .before .before .value-of .ensures .0) at (c .put-yard .ensures))
 
 add-i : tie.Need-add-i Inv-loop μ-loop
 add-i c = omega arith
@@ -80,7 +90,7 @@ loop-less c = omega arith
 loop-again : tie.Need-loop-again Inv-loop μ-loop
 loop-again c =
     let at-line = c .before .before in
-    let at-loop = at-line .before .before .before .before .before .before in
+    let at-loop = at-line .before .before .before .before .before .before .before in
     let a = at-loop .before .before .before .before .before .args in
     let l = at-loop .loop in (
       omega arith,
@@ -106,6 +116,9 @@ put-yards-spec =
     loop-holds
     mul-marks
     array-copy-out-marks
+    mul-value-of
+    array-read-value-of
+    value-of-requires
     mul-cut
     array-copy-out-cut
     add-put-yard

@@ -21,9 +21,6 @@ put-field-requires c κs = search needs
 put-pile-requires : tie.Need-put-pile-requires
 put-pile-requires c κs = search needs
 
-value-of-requires : tie.Need-value-of-requires
-value-of-requires c κs = search needs
-
 put-amounts-requires : tie.Need-put-amounts-requires
 put-amounts-requires c κs = search needs
 
@@ -45,12 +42,12 @@ returns c =
     let end = c .before .before in
     let cut = end .before .before .before .before .before in
     let valued = cut .before .before .before .before in
-    let piled = valued .before .before .before .before .before in
+    let piled = valued .before .before .before .before in
     let numbered = piled .before .before .before .before in
     let counted = numbered .before .before .before in
     numbered .put-field .ensures
     then piled .put-pile .ensures
-    then rw (valued .before .value-of .ensures .0) at (valued .put-amounts .ensures)
+    then valued .put-amounts .ensures
     then rw (counted .before .lesser .ensures, counted .lesser2 .ensures) at (cut .put-cut .ensures)
     then end .put-bytes .ensures
 
@@ -63,7 +60,6 @@ put-yard-spec =
     slice-aggregate-put-field
     put-field-requires
     put-pile-requires
-    value-of-requires
     put-amounts-requires
     put-cut-requires
     slice-aggregate-put-bytes
