@@ -4,8 +4,6 @@ use mathlib.Core.List.{List, []}
 use Prim.Native.Nat.{ℕ}
 use Rattle.lists.specs.Lists.{nth}
 use Rattle.sheet.specs.Sets.{itemsOf}
-use Rattle.sheet.specs.Valuations.{value}
-use Rattle.sheet.specs.Tables.{valuation}
 use Rattle.bundling.specs.Bundles.{allBundles}
 use Rattle.shares.specs.declared.Cut.{Cut}
 use Rattle.division.specs.declared.Outcome.{Outcome}
@@ -17,12 +15,11 @@ abbrev pub noCut : Cut
 noCut = record { partition = [] }
 
 -- the line of agent i
-abbrev pub outcomeLine : ℕ → ℕ → List (List ℕ) → List ℕ → List ℕ → List Cut → ℕ → List ℕ
-outcomeLine agents items table bundles shares cuts i =
-    let bundle = itemsOf (nth 0 bundles i) in
-    yardLine i bundle (value (valuation table i) bundle) (nth 0 shares i) (allBundles agents items (nth noCut cuts i .partition))
+abbrev pub outcomeLine : ℕ → ℕ → List ℕ → List ℕ → List ℕ → List Cut → ℕ → List ℕ
+outcomeLine agents items bundles worths shares cuts i =
+    yardLine i (itemsOf (nth 0 bundles i)) (nth 0 worths i) (nth 0 shares i) (allBundles agents items (nth noCut cuts i .partition))
 
 -- the whole text
-unfoldable pub outcomeText : ℕ → ℕ → List (List ℕ) → ℕ → Outcome → List ℕ
-outcomeText agents items table grade o =
-    allLines agents items grade (outcomeLine agents items table (o .bundles) (o .shares) (o .cuts)) (cuttersLine (beforeZero (o .cutters)))
+unfoldable pub outcomeText : ℕ → ℕ → Outcome → List ℕ
+outcomeText agents items o =
+    allLines agents items (o .grade) (outcomeLine agents items (o .bundles) (o .worths) (o .shares) (o .cuts)) (cuttersLine (beforeZero (o .cutters)))

@@ -10,31 +10,21 @@ use printed_lines::put_cutters;
 use printed_lines::put_head;
 use printed_lines::put_yard;
 use sheet::Sheet;
-use sheet::Table;
 use sheet::lesser;
-use sheet::valuing::value_of;
 use writing::put_bytes;
 
 // The lines of all agents.
-fn put_yards(
-    buffer: &mut [u8],
-    at: usize,
-    agents: usize,
-    items: usize,
-    table: Table,
-    outcome: Outcome,
-) -> usize
+fn put_yards(buffer: &mut [u8], at: usize, agents: usize, items: usize, outcome: Outcome) -> usize
     requires { ⌜ (agents ≤ mostAgents) × (items ≤ mostItems) ⌝ }
-    ensures { λ r. ⌜ Written (output (now (buffer .entry)) at) (flatMap (outcomeLine agents items table (outcome .bundles) (outcome .shares) (outcome .cuts)) (range 1 agents)) (output (now (buffer .exit)) r) ⌝ }
+    ensures { λ r. ⌜ Written (output (now (buffer .entry)) at) (flatMap (outcomeLine agents items (outcome .bundles) (outcome .worths) (outcome .shares) (outcome .cuts)) (range 1 agents)) (output (now (buffer .exit)) r) ⌝ }
 {
     let bundles = outcome.bundles;
+    let worths = outcome.worths;
     let shares = outcome.shares;
     let cuts = outcome.cuts;
     let mut next = at;
     let mut i: usize = 0;
     while i < agents {
-        let marks = table[i];
-        let worth = value_of(marks, bundles[i]);
         let cut = cuts[i];
         let partition = cut.partition;
         next = put_yard(
@@ -44,7 +34,7 @@ fn put_yards(
             items,
             i + 1,
             bundles[i],
-            worth,
+            worths[i],
             shares[i],
             partition,
         );
@@ -54,21 +44,14 @@ fn put_yards(
 }
 
 // The whole text of an outcome, for these counts; counts beyond the limits are cut to them. Returns the place of the byte that comes next.
-pub fn put_division(
-    buffer: &mut [u8],
-    agents: usize,
-    items: usize,
-    table: Table,
-    grade: u8,
-    outcome: Outcome,
-) -> usize
-    ensures { λ r. ⌜ Written (output (now (buffer .entry)) 0) (outcomeText (min agents mostAgents) (min items mostItems) table grade outcome) (output (now (buffer .exit)) r) ⌝ }
+pub fn put_division(buffer: &mut [u8], agents: usize, items: usize, outcome: Outcome) -> usize
+    ensures { λ r. ⌜ Written (output (now (buffer .entry)) 0) (outcomeText (min agents mostAgents) (min items mostItems) outcome) (output (now (buffer .exit)) r) ⌝ }
 {
     let yards = lesser(agents, Sheet::AGENTS);
     let pieces = lesser(items, Sheet::ITEMS);
     let cutters = outcome.cutters;
-    let headed = put_head(buffer, 0, yards, pieces, grade);
-    let lined = put_yards(buffer, headed, yards, pieces, table, outcome);
+    let headed = put_head(buffer, 0, yards, pieces, outcome.grade);
+    let lined = put_yards(buffer, headed, yards, pieces, outcome);
     let named = put_cutters(buffer, lined, cutters);
     put_bytes(buffer, named, b"(end)\n")
 }

@@ -15,34 +15,19 @@ use Rattle.printed_division.proofs.put_yards.Statement.{statement}
 use Rattle.printed_division.proofs.put_yards.Tie as tie
 
 abbrev Inv-loop : tie.InvT-loop
-Inv-loop buffer₀ at agents items table bundles shares cuts next₀ i₀ buffer next i =
-    (i ≤ agents) × (length buffer ≡ length buffer₀) × Written (output buffer₀ at) (flatMap (outcomeLine agents items table bundles shares cuts) (range 1 i)) (output buffer next)
+Inv-loop buffer₀ at agents items bundles worths shares cuts next₀ i₀ buffer next i =
+    (i ≤ agents) × (length buffer ≡ length buffer₀) × Written (output buffer₀ at) (flatMap (outcomeLine agents items bundles worths shares cuts) (range 1 i)) (output buffer next)
 
 abbrev μ-loop : tie.MeasureT-loop
-μ-loop buffer₀ at agents items table bundles shares cuts next₀ i₀ buffer next i = agents - i
+μ-loop buffer₀ at agents items bundles worths shares cuts next₀ i₀ buffer next i = agents - i
 
 -- the line of each agent
 abbrev lineOf : tie.At-loop Inv-loop μ-loop → ℕ → List ℕ
-lineOf c = let a = c .before .before .before .before .before .args in outcomeLine (a .agents) (a .items) (a .t5) (a .outcome .bundles) (a .outcome .shares) (a .outcome .cuts)
+lineOf c = let a = c .before .before .before .before .before .before .args in outcomeLine (a .agents) (a .items) (a .outcome .bundles) (a .outcome .worths) (a .outcome .shares) (a .outcome .cuts)
 
 loop-holds : tie.Need-loop-holds Inv-loop μ-loop
 unfolding flatMap
 loop-holds c = (omega arith, refl, nothing)
-
-mul-marks : tie.Need-mul-marks Inv-loop μ-loop
-mul-marks c = omega arith
-
-array-copy-out-marks : tie.Need-array-copy-out-marks Inv-loop μ-loop
-array-copy-out-marks c = omega arith
-
-mul-value-of : tie.Need-mul-value-of Inv-loop μ-loop
-mul-value-of c = omega arith
-
-array-read-value-of : tie.Need-array-read-value-of Inv-loop μ-loop
-array-read-value-of c = omega arith
-
-value-of-requires : tie.Need-value-of-requires Inv-loop μ-loop
-value-of-requires c κs = tt
 
 mul-cut : tie.Need-mul-cut Inv-loop μ-loop
 mul-cut c = omega arith
@@ -65,21 +50,27 @@ mul-put-yard-2 c = omega arith
 array-read-put-yard-2 : tie.Need-array-read-put-yard-2 Inv-loop μ-loop
 array-read-put-yard-2 c = omega arith
 
+mul-put-yard-3 : tie.Need-mul-put-yard-3 Inv-loop μ-loop
+mul-put-yard-3 c = omega arith
+
+array-read-put-yard-3 : tie.Need-array-read-put-yard-3 Inv-loop μ-loop
+array-read-put-yard-3 c = omega arith
+
 put-yard-requires : tie.Need-put-yard-requires Inv-loop μ-loop
 put-yard-requires c κs = tt
 
 -- the line of the next agent is written
 line-written : (c : tie.After-put-yard Inv-loop μ-loop)
-    → let at-loop = c .before .before .before .before .before .before .before in
+    → let at-loop = c .before .before .before .before .before in
     let l = at-loop .loop in
     Written (output (l .buffer) (l .next)) (lineOf at-loop (l .i + 1)) (output (c .put-yard .last .0) (c .put-yard .result))
 line-written c =
-    let at-loop = c .before .before .before .before .before .before .before in
-    let a = at-loop .before .before .before .before .before .args in
+    let at-loop = c .before .before .before .before .before in
+    let a = at-loop .before .before .before .before .before .before .args in
     let few : min (a .agents) mostAgents ≡ a .agents = omega arith in
     let few-items : min (a .items) mostItems ≡ a .items = omega arith in
-    rw (outcomeLine-next (a .agents) (a .items) (a .t5) (a .outcome .bundles) (a .outcome .shares) (a .outcome .cuts) (at-loop .loop .i))
-    (rw (few, few-items, c .before .before .before .before .value-of .ensures .0) at (c .put-yard .ensures))
+    rw (outcomeLine-next (a .agents) (a .items) (a .outcome .bundles) (a .outcome .worths) (a .outcome .shares) (a .outcome .cuts) (at-loop .loop .i))
+    (rw (few, few-items) at (c .put-yard .ensures))
 
 add-i : tie.Need-add-i Inv-loop μ-loop
 add-i c = omega arith
@@ -90,8 +81,8 @@ loop-less c = omega arith
 loop-again : tie.Need-loop-again Inv-loop μ-loop
 loop-again c =
     let at-line = c .before .before in
-    let at-loop = at-line .before .before .before .before .before .before .before in
-    let a = at-loop .before .before .before .before .before .args in
+    let at-loop = at-line .before .before .before .before .before in
+    let a = at-loop .before .before .before .before .before .before .args in
     let l = at-loop .loop in (
       omega arith,
       at-line .put-yard .kept .0 ∙ l .inv .1,
@@ -104,7 +95,7 @@ same-length c = c .before .loop .inv .1
 returns : tie.Need-returns Inv-loop μ-loop
 returns c =
     let l = c .before .loop in
-    let all : l .i ≡ c .before .before .before .before .before .before .args .agents = omega arith in
+    let all : l .i ≡ c .before .before .before .before .before .before .before .args .agents = omega arith in
     rw all at (l .inv .2)
 
 pub put-yards-spec : {M : Type 1} → statement M
@@ -114,11 +105,6 @@ put-yards-spec =
     Inv-loop
     μ-loop
     loop-holds
-    mul-marks
-    array-copy-out-marks
-    mul-value-of
-    array-read-value-of
-    value-of-requires
     mul-cut
     array-copy-out-cut
     add-put-yard
@@ -126,6 +112,8 @@ put-yards-spec =
     array-read-put-yard
     mul-put-yard-2
     array-read-put-yard-2
+    mul-put-yard-3
+    array-read-put-yard-3
     put-yard-requires
     add-i
     loop-less
