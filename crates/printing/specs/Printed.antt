@@ -3,22 +3,21 @@
 use mathlib.Core.List.{List, []}
 use Prim.Native.Nat.{ℕ}
 use Rattle.lists.specs.Lists.{nth}
-use Rattle.sheet.specs.Valuations.{value}
-use Rattle.sheet.specs.Tables.{valuation}
+use Rattle.sheet.specs.Contents.{Contents}
 use Rattle.bundling.specs.Bundles.{allBundles}
 use Rattle.rounds.specs.Division.{Division}
 unfoldable pub use Rattle.printed_lines.specs.PrintedLines.{headLine, pileGroup, amounts, cutGroup, yardLine, cuttersLine, allLines}
 
--- the line of agent i: its worth by its own marks, its cut of all items into as many bundles as there are agents
-abbrev pub agentLine : ℕ → ℕ → List (List ℕ) → Division → ℕ → List ℕ
-agentLine agents items table d i =
-    let bundle = nth [] (d .bundles) i in
-    yardLine i bundle (value (valuation table i) bundle) (nth 0 (d .shares) i) (allBundles agents items (nth [] (d .cuts) i))
+-- the line of agent i: its bundle, the worth of that, which is by its own marks (proofs/printed/Worths.antt), its share, and its cut of all
+-- items into as many bundles as there are agents
+abbrev pub agentLine : Contents → Division → ℕ → List ℕ
+agentLine sheet d i =
+    yardLine i (nth [] (d .bundles) i) (nth 0 (d .worths) i) (nth 0 (d .shares) i) (allBundles (sheet .agents) (sheet .items) (nth [] (d .cuts) i))
 
--- the printed division of a table
-unfoldable pub printed : ℕ → ℕ → List (List ℕ) → Division → List ℕ
-printed agents items table d = allLines agents items (d .grade) (agentLine agents items table d) (cuttersLine (d .cutters))
+-- the printed division of a sheet
+unfoldable pub printed : Contents → Division → List ℕ
+printed sheet d = allLines (sheet .agents) (sheet .items) (d .grade) (agentLine sheet d) (cuttersLine (d .cutters))
 
 -- document 02, order 5: "a division as the box prints it, but without the cutters line"
-unfoldable pub printedWithoutCutters : ℕ → ℕ → List (List ℕ) → Division → List ℕ
-printedWithoutCutters agents items table d = allLines agents items (d .grade) (agentLine agents items table d) []
+unfoldable pub printedWithoutCutters : Contents → Division → List ℕ
+printedWithoutCutters sheet d = allLines (sheet .agents) (sheet .items) (d .grade) (agentLine sheet d) []

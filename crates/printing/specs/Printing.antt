@@ -1,15 +1,16 @@
--- What printing a table's division into a lent buffer answers. Assumes nothing: these are definitions.
+-- What printing a sheet's division into a lent buffer answers. Assumes nothing: these are definitions.
 use mathlib.Core.List.{List}
 use Prim.Native.Nat.{ℕ, _+_, _*_}
 use Rattle.sheet.specs.Limits.{mostAgents, mostItems, sumDigits}
+use Rattle.sheet.specs.Contents.{Contents}
 use Rattle.sheet.specs.Answers.{Answer, andThen}
 use Rattle.writing.specs.Filled.{filling}
 use Rattle.rounds.specs.Division as division
 use Rattle.printing.specs.Printed.{printed}
 
--- "one that fills a lent buffer tries 10 last": the text of a table's division with an allowance, printed into a buffer of so many bytes
-unfoldable pub printing : ℕ → ℕ → List (List ℕ) → ℕ → ℕ → Answer (List ℕ)
-printing agents items table allowance room = andThen (division.answer agents items table allowance) (λ d. filling room (printed agents items table d))
+-- "one that fills a lent buffer tries 10 last": the text of a sheet's division with an allowance, printed into a buffer of so many bytes
+unfoldable pub printing : Contents → ℕ → ℕ → Answer (List ℕ)
+printing sheet allowance room = andThen (division.answer sheet allowance) (λ d. filling room (printed sheet d))
 
 -- the most bytes of the head of a table within the limits: (division (yards 6) (pieces 12) (grade 4)) and the line feed
 abbrev pub longestHead : ℕ

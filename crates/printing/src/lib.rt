@@ -1,8 +1,9 @@
-// Printing the division of a table of marks into a lent buffer (document 01, "The printed division"). Its meaning stands in specs/.
+// Printing the division of a sheet into a lent buffer (document 01, "The printed division"). Its meaning stands in specs/.
 ghost use mathlib.Core.Path.{_≡_};
 ghost use Prim.Native.Nat.{_≤_};
 ghost use lib.ListN.{length};
 ghost use Rattle.sheet.specs.Limits.{InUse};
+ghost use Rattle.sheet.specs.Contents.{contents};
 ghost use Rattle.sheet.specs.Answers.{after};
 ghost use Rattle.writing.specs.Answered.{answered};
 ghost use Rattle.writing.specs.Filled.{filling, filled};
@@ -35,41 +36,26 @@ const LONGEST_CUTTERS: usize = 10 + 2 * Sheet::AGENTS;
 pub const LONGEST: usize = LONGEST_HEAD + Sheet::AGENTS * LONGEST_YARD + LONGEST_CUTTERS + 6;
 
 // Prints an outcome; refused with 10 where the buffer is shorter than the text.
-fn print_outcome(
-    agents: usize,
-    items: usize,
-    table: Table,
-    grade: u8,
-    outcome: Outcome,
-    buffer: &mut [u8],
-) -> Answer
-    requires { ⌜ InUse agents items × (length (outcomeText agents items table grade outcome) ≤ longestPrinted) ⌝ }
-    ensures answer { λ r. ⌜ r ≡ answered (filling (length (now (buffer .entry))) (outcomeText agents items table grade outcome)) ⌝ }
-    ensures buffer { λ _. ⌜ now (buffer .exit) ≡ after filled (filling (length (now (buffer .entry))) (outcomeText agents items table grade outcome)) (now (buffer .entry)) ⌝ }
+fn print_outcome(agents: usize, items: usize, outcome: Outcome, buffer: &mut [u8]) -> Answer
+    requires { ⌜ InUse agents items × (length (outcomeText agents items outcome) ≤ longestPrinted) ⌝ }
+    ensures answer { λ r. ⌜ r ≡ answered (filling (length (now (buffer .entry))) (outcomeText agents items outcome)) ⌝ }
+    ensures buffer { λ _. ⌜ now (buffer .exit) ≡ after filled (filling (length (now (buffer .entry))) (outcomeText agents items outcome)) (now (buffer .entry)) ⌝ }
 {
     let mut text = [0u8; LONGEST];
-    let length = put_division(&mut text, agents, items, table, grade, outcome);
+    let length = put_division(&mut text, agents, items, outcome);
     fill(&text[..length], buffer)
 }
 
-// Divides a table of marks with these counts and this allowance and prints the division from the front of the buffer. Refused as by
+// Divides a table of marks as its sheet says, with an allowance, and prints the division from the front of the buffer. Refused as by
 // `divide`, else with 10 where the buffer is shorter than the text; then the buffer keeps all its bytes.
-pub fn print_division(
-    table: Table,
-    agents: usize,
-    items: usize,
-    allowance: u32,
-    buffer: &mut [u8],
-) -> Answer
-    ensures answer { λ r. ⌜ r ≡ answered (printing agents items table allowance (length (now (buffer .entry)))) ⌝ }
-    ensures buffer { λ _. ⌜ now (buffer .exit) ≡ after filled (printing agents items table allowance (length (now (buffer .entry)))) (now (buffer .entry)) ⌝ }
+pub fn print_division(table: Table, sheet: Sheet, allowance: u32, buffer: &mut [u8]) -> Answer
+    ensures answer { λ r. ⌜ r ≡ answered (printing (contents sheet table) allowance (length (now (buffer .entry)))) ⌝ }
+    ensures buffer { λ _. ⌜ now (buffer .exit) ≡ after filled (printing (contents sheet table) allowance (length (now (buffer .entry)))) (now (buffer .entry)) ⌝ }
 {
-    let outcome = divide(table, agents, items, allowance);
+    let outcome = divide(table, sheet, allowance);
     let answer = outcome.answer;
     match answer {
         division::Answer::Refused(number) => Answer::Refused(number),
-        division::Answer::Divided(grade) => {
-            print_outcome(agents, items, table, grade, outcome, buffer)
-        }
+        division::Answer::Divided => print_outcome(sheet.agents, sheet.items, outcome, buffer),
     }
 }

@@ -16,7 +16,7 @@ use Rattle.printing.proofs.print_outcome.Tie as tie
 
 -- the text of the outcome
 abbrev textOf : tie.Start → List ℕ
-textOf s = let a = s .args in outcomeText (a .agents) (a .items) (a .table) (a .grade) (a .outcome)
+textOf s = let a = s .args in outcomeText (a .agents) (a .items) (a .outcome)
 
 -- it stands whole at the front of the local array
 whole : (c : tie.After-put-division) → WholeAtFront (zeros longestPrinted) (textOf (c .before .before .before)) (c .put-division .last .0) (c .put-division .result)

@@ -11,8 +11,7 @@ use Rattle.lists.proofs.ranges.Ranges.{length-range, range-bounds, within-mem}
 use Rattle.lists.proofs.members.Distinct.{range-distinct}
 use Rattle.text.proofs.Spaced.{spaced, length-spacedNumbers, sumOver-spaced}
 use Rattle.sheet.specs.Limits.{mostAgents, mostItems, sumDigits}
-use Rattle.sheet.specs.Valuations.{value}
-use Rattle.sheet.specs.Tables.{valuation}
+use Rattle.sheet.specs.Contents.{Contents}
 use Rattle.bundling.specs.Bundles.{bundle, allBundles}
 use Rattle.rounds.specs.Division.{Division}
 use Rattle.bundling.proofs.Sums.{sumOver-handed}
@@ -41,25 +40,31 @@ length-cut n m partition few few-items same =
       length-range 1 m,
     )
 
-module _ (n m : ℕ) (table : List (List ℕ)) (d : Division) (few : n ≤ mostAgents) (few-items : m ≤ mostItems) (p : Printable n m d)
-    (worth-small : (i : ℕ) → Mem i (range 1 n) → value (valuation table i) (nth [] (d .bundles) i) < 10 ^ sumDigits)
-    (share-small : (i : ℕ) → Mem i (range 1 n) → nth 0 (d .shares) i < 10 ^ sumDigits) where
-  length-agentLine : (i : ℕ) → Mem i (range 1 n) → length (agentLine n m table d i) ≤ longestYard
+module _ (sheet : Contents) (d : Division) (few : sheet .agents ≤ mostAgents) (few-items : sheet .items ≤ mostItems) (p : Printable (sheet .agents) (sheet .items) d)
+    (worth-small : (i : ℕ) → Mem i (range 1 (sheet .agents)) → nth 0 (d .worths) i < 10 ^ sumDigits)
+    (share-small : (i : ℕ) → Mem i (range 1 (sheet .agents)) → nth 0 (d .shares) i < 10 ^ sumDigits) where
+  abbrev n : ℕ
+  n = sheet .agents
+
+  abbrev m : ℕ
+  m = sheet .items
+
+  length-agentLine : (i : ℕ) → Mem i (range 1 n) → length (agentLine sheet d i) ≤ longestYard
   length-agentLine i in-use =
       let b = range-bounds 1 n in-use in
       let partition = nth [] (d .cuts) i in
       omega (
         arith,
-        length-yardLine m few-items (p .of-items i in-use) i (value (valuation table i) (nth [] (d .bundles) i)) (nth 0 (d .shares) i) (allBundles n m partition) (omega arith) (worth-small i in-use) (share-small i in-use),
+        length-yardLine m few-items (p .of-items i in-use) i (nth 0 (d .worths) i) (nth 0 (d .shares) i) (allBundles n m partition) (omega arith) (worth-small i in-use) (share-small i in-use),
         length-cut n m partition few few-items (p .entry-each i in-use),
       )
 
-  pub length-printed : length (printed n m table d) ≤ longestPrinted
+  pub length-printed : length (printed sheet d) ≤ longestPrinted
   unfolding printed
   length-printed =
       omega (
         arith,
-        length-allLines n m (d .grade) (agentLine n m table d) (cuttersLine (d .cutters)) longestYard (omega arith) (omega arith) (p .one-digit) length-agentLine,
+        length-allLines n m (d .grade) (agentLine sheet d) (cuttersLine (d .cutters)) longestYard (omega arith) (omega arith) (p .one-digit) length-agentLine,
         mul-le-mul-right longestYard few,
         length-cuttersLine n (d .cutters) few (p .cutters-within) (p .few-cutters),
       )

@@ -63,14 +63,14 @@ texts =
     ++ bytes "(cutters 1)\n(end)\n")
     ∷ []
 
-texts-printed : map (λ s. filling 255 (printed (s .agents) (s .items) (s .rows) (s .division))) samples ≡ map accepted texts
+texts-printed : map (λ s. filling 255 (printed (s .sheet) (s .division))) samples ≡ map accepted texts
 unfolding texts starred flatMap printed allLines headLine pileGroup amounts cutGroup yardLine cuttersLine digitsIn decimal spacedNumbers
 texts-printed = refl
 
 -- the tables of the samples are printed so; a buffer of 255 bytes has room for each
-pub samples-printed : map (λ s. printing (s .agents) (s .items) (s .rows) standardAllowance 255) samples ≡ map accepted texts
+pub samples-printed : map (λ s. printing (s .sheet) standardAllowance 255) samples ≡ map accepted texts
 unfolding printing
 samples-printed =
-    map-alike (λ s. answer (s .agents) (s .items) (s .rows) standardAllowance) (λ s. accepted (s .division))
-    (λ s a. andThen a (λ d. filling 255 (printed (s .agents) (s .items) (s .rows) d))) samples samples-hold
+    map-alike (λ s. answer (s .sheet) standardAllowance) (λ s. accepted (s .division))
+    (λ s a. andThen a (λ d. filling 255 (printed (s .sheet) d))) samples samples-hold
     ∙ texts-printed
