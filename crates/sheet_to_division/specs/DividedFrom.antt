@@ -4,15 +4,12 @@ use Prim.Native.Nat.{ℕ}
 use Rattle.sheet.specs.Answers.{Answer, accepted, andThen}
 use Rattle.sheet.specs.Contents.{Contents}
 use Rattle.reading.specs.Reading.{reading}
-use Rattle.rounds.specs.Division.{Division, divisionByRounds, answer}
+use Rattle.rounds.specs.Division.{Division, answer}
 
--- "an accepted sheet gets the division of its table" (document 01, "The two lists of demand 3")
-abbrev pub divisionOfSheet : Contents → Division
-divisionOfSheet sheet = divisionByRounds (sheet .agents) (sheet .items) (sheet .table)
-
--- what a sheet carries and its division, with an allowance for cutting
+-- what a sheet carries and its division, with an allowance for cutting: "an accepted sheet gets the division of its table" (document 01, "The
+-- two lists of demand 3")
 abbrev pub withDivision : ℕ → Contents → Answer (Contents × Division)
-withDivision allowance sheet = andThen (answer (sheet .agents) (sheet .items) (sheet .table) allowance) (λ d. accepted (sheet, d))
+withDivision allowance sheet = andThen (answer sheet allowance) (λ d. accepted (sheet, d))
 
 -- what a text carries, by a way of reading it, and its division
 abbrev pub dividedBy : (List ℕ → Answer Contents) → List ℕ → ℕ → Answer (Contents × Division)

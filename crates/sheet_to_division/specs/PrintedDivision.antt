@@ -4,18 +4,13 @@ use Prim.Native.Nat.{ℕ}
 use Rattle.sheet.specs.Answers.{Answer, andThen}
 use Rattle.sheet.specs.Contents.{Contents}
 use Rattle.writing.specs.Filled.{filling}
-use Rattle.rounds.specs.Division.{Division}
+use Rattle.rounds.specs.Division.{Division, divisionByRounds}
 use Rattle.printing.specs.Printed.{printed}
-use Rattle.sheet_to_division.specs.DividedFrom.{divisionOfSheet}
-
--- a division of a sheet, printed
-abbrev pub printedFor : Contents → Division → List ℕ
-printedFor sheet d = printed (sheet .agents) (sheet .items) (sheet .table) d
 
 -- the division of a sheet, printed
 abbrev pub printedDivision : Contents → List ℕ
-printedDivision sheet = printedFor sheet (divisionOfSheet sheet)
+printedDivision sheet = printed sheet (divisionByRounds sheet)
 
 -- "one that fills a lent buffer tries 10 last": a sheet and its division, printed into a buffer of so many bytes
 abbrev pub printedInto : ℕ → Answer (Contents × Division) → Answer (List ℕ)
-printedInto room divided = andThen divided (λ (sheet, d). filling room (printedFor sheet d))
+printedInto room divided = andThen divided (λ (sheet, d). filling room (printed sheet d))

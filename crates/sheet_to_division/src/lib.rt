@@ -21,7 +21,7 @@ pub fn share_out(text: &[u8], allowance: u32, buffer: &mut [u8]) -> Answer
         reading::Answer::Accepted(sheet) => {
             let rows = found.rows;
             let table = reading::table(rows);
-            printing::print_division(table, sheet.agents, sheet.items, allowance, buffer)
+            printing::print_division(table, sheet, allowance, buffer)
         }
     }
 }

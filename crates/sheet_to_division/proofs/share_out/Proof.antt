@@ -4,6 +4,7 @@ use mathlib.Core.List.{List}
 use Prim.Native.Nat.{ℕ}
 use lib.ListN.{length}
 use Rattle.sheet.specs.Answers.{Answer, after}
+use Rattle.sheet.specs.Contents.{Contents, contents}
 use Rattle.writing.specs.Filled.{filled}
 use Rattle.reading.proofs.Composed.{refused-read, accepted-read}
 use Rattle.writing.specs.Answered.{answered}
@@ -14,8 +15,8 @@ use Rattle.sheet_to_division.proofs.share_out.Statement.{statement}
 use Rattle.sheet_to_division.proofs.share_out.Tie as tie
 
 -- what follows reading
-abbrev printingOf : ℕ → ℕ → ℕ → ℕ → List (List ℕ) → Answer (List ℕ)
-printingOf allowance room agents items table = printing agents items table allowance room
+abbrev printingOf : ℕ → ℕ → Contents → Answer (List ℕ)
+printingOf allowance room sheet = printing sheet allowance room
 
 read-requires : tie.Need-read-requires
 read-requires c κs = search needs
@@ -38,7 +39,7 @@ returns c =
     let a = at-read .before .before .before .args in
     let room = length (a .buffer .now) in
     let told = shareOut-by-printing (a .allowance) room (a .text .now)
-    ∙ refused-read (λ sheet. printingOf (a .allowance) room (sheet .agents) (sheet .items) (sheet .table)) (a .text .now) (at-read .read .ensures) (c .before .answer .given .1) in
+    ∙ refused-read (printingOf (a .allowance) room) (a .text .now) (at-read .read .ensures) (c .before .answer .given .1) in
     (sym (ap answered told), sym (ap (λ p. after filled p (a .buffer .now)) told))
 
 same-length : tie.Need-same-length
@@ -55,7 +56,7 @@ returns-2 c =
     let room = length (a .buffer .now) in
     let same = accepted-read (a .text .now) (at-read .read .ensures) (printingOf (a .allowance) room) (at-answer .answer2 .given .1) (at-table .table .ensures)
     ∙ sym (shareOut-by-printing (a .allowance) room (a .text .now)) in
-    let told : at-print .print-division .result ≡ answered (printing (counts .agents) (counts .items) (at-table .table .result) (a .allowance) room) = at-print .print-division .ensures .0 in
+    let told : at-print .print-division .result ≡ answered (printing (contents counts (at-table .table .result)) (a .allowance) room) = at-print .print-division .ensures .0 in
     (told ∙ ap answered same, at-print .print-division .ensures .1 ∙ ap (λ p. after filled p (a .buffer .now)) same)
 
 pub share-out-spec : {M : Type 1} → statement M
