@@ -20,7 +20,7 @@ module _ (digits : ℕ) where
       then-holds _ (λ r. length (r .0) ≡ items) (marks digits items ts₁) _ (in-turn-length (λ piece. number digits) 1 items ts₁)
       (λ r e. read-holds _ (follow (form lineEnd) (r .1)) _ (λ ts₂. e)))
 
-  pub yard-lines-shape : (agents items : ℕ) (ts : List Token) → Holds (λ r. (length (r .0) ≡ agents) × AllOfLength items (r .0)) (yardLines digits agents items ts)
+  yard-lines-shape : (agents items : ℕ) (ts : List Token) → Holds (λ r. (length (r .0) ≡ agents) × AllOfLength items (r .0)) (yardLines digits agents items ts)
   yard-lines-shape agents items ts =
       let line = yardLine digits items in
       holds-both _ _ (yardLines digits agents items ts) (in-turn-length line 1 agents ts) (in-turn-each line (λ row. length row ≡ items) (yard-line-length items) 1 agents ts)

@@ -23,12 +23,14 @@ use Rattle.sheet_lines.specs.declared.yards.Line.{Line}
 use Rattle.sheet_lines.specs.declared.body.Body.{Body}
 use Rattle.sheet_lines.proofs.kept.StoredTable.{yards-padded}
 
+-- the marks of a line
 abbrev pub rowRead : Bool → List ℕ → Cursor → Line
 rowRead passed row next = record { read = true; allowed = passed; row = row; next = next }
 
 abbrev pub marksStored : Storing ℕ ℕ Line
 marksStored = record { reader = λ piece. number markDigits; stored = reduced; test = allowed greatestMark; missed = unreadLine; done = rowRead }
 
+-- the yard lines
 abbrev pub yardsRead : Bool → List Yard → Cursor → Body
 yardsRead passed yards next = record { read = true; allowed = passed; yards = yards; next = next }
 
