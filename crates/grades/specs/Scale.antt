@@ -6,7 +6,7 @@ use lib.IntN.{ℤ}
 use Rattle.lists.specs.Lists.{nth}
 use Rattle.sheet.specs.Contents.{Contents, valuationsOf}
 use Rattle.shares.specs.Shares.{sharesOf}
-use Rattle.terms.specs.Terms.{termsFor}
+use Rattle.terms.specs.Terms.{termsOf}
 use Rattle.terms.specs.declared.Terms.{Terms}
 use Rattle.margins.specs.Margins.{noneNegative}
 use Rattle.grades.specs.Grade.{envyFree, proportional, maximinFair}
@@ -39,13 +39,13 @@ module _ (sheet : Contents) where
     abbrev pub passesByTerms : ℕ → Bool
     passesByTerms g = nth true tests g
 
-  -- the same by the terms of document 01, so by the sheet alone: for margins and grades they are fixed here and nowhere else
+  -- the same by the terms of the sheet
   module _ (bundles : List (List ℕ)) where
     abbrev pub marginsByTable : List ℤ
-    marginsByTable = marginsByTerms (termsFor (sheet .agents)) bundles
+    marginsByTable = marginsByTerms (termsOf sheet) bundles
 
     abbrev pub passes : ℕ → Bool
-    passes = passesByTerms (termsFor (sheet .agents)) bundles
+    passes = passesByTerms (termsOf sheet) bundles
 
     abbrev pub gradeByTable : ℕ
-    gradeByTable = gradeByTerms (termsFor (sheet .agents)) bundles
+    gradeByTable = gradeByTerms (termsOf sheet) bundles

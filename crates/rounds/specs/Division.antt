@@ -7,7 +7,7 @@ use Rattle.sheet.specs.Answers.{Answer, accepted, andThen}
 use Rattle.sheet.specs.Contents.{Contents, valuationsOf}
 use Rattle.maximin.specs.Share.{maximinShare, maximinPartition}
 use Rattle.terms.specs.declared.Terms.{Terms}
-use Rattle.terms.specs.Terms.{termsFor}
+use Rattle.terms.specs.Terms.{termsOf}
 use Rattle.rounds.specs.Round.{Instance, Round, rounds, held}
 use Rattle.grades.specs.Assessment.{Assessment, assessment}
 use Rattle.shares.specs.Shares.{sharingWithin}
@@ -31,9 +31,9 @@ instanceOf n terms valuations = record { terms = terms; valuations = valuations;
 abbrev pub instanceOfTable : Contents → Terms → Instance
 instanceOfTable sheet terms = instanceOf (sheet .agents) terms (valuationsOf sheet)
 
--- the same by the terms of document 01: for a division they are fixed here and nowhere else
+-- the same by the terms of the sheet
 abbrev pub standardInstance : Contents → Instance
-standardInstance sheet = instanceOfTable sheet (termsFor (sheet .agents))
+standardInstance sheet = instanceOfTable sheet (termsOf sheet)
 
 module _ (n m : ℕ) (G : Instance) where
   -- the rounds from n agents and the items 1 .. m
