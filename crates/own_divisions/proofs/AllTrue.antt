@@ -9,6 +9,7 @@ use Rattle.lists.specs.Lists.{range, nth}
 use Rattle.lists.proofs.ranges.Ranges.{in-range, length-range, nth-map-range, map-nth-range}
 use Rattle.sheet.specs.Limits.{CountsWithin}
 use Rattle.sheet.specs.Answers.{accepted}
+use Rattle.sheet.specs.Contents.{Contents}
 use Rattle.sheet.specs.Valuations.{itemValue}
 use Rattle.sheet.specs.Tables.{valuation, allValues}
 use Rattle.sheet.specs.Allocations.{Allocates}
@@ -17,13 +18,15 @@ use Rattle.maximin.specs.Share.{maximinPartition}
 use Rattle.maximin.proofs.Laws.{maximinPartition-within, leastBundle-maximinPartition}
 use Rattle.shares.specs.Shares.{shareOf}
 use Rattle.shares.proofs.Profile.{nth-shares, nth-cuts}
-use Rattle.grades.specs.Scale.{marginsByTable, gradeByTable}
+use Rattle.terms.specs.Terms.{termsOf}
+use Rattle.grades.specs.Scale.{marginsByTerms, gradeByTerms}
 use Rattle.bundling.specs.Bundles.{allBundles}
 use Rattle.rounds.specs.Division.{Division, divisionOf, divisionByRounds, answer}
 use Rattle.bundling.proofs.Allocating.{allBundles-sublist, allBundles-allocate}
 use Rattle.rounds.proofs.Answers.{answer-accepted}
 use Rattle.rounds.proofs.Graded.{division-allocates}
 use Rattle.printing.proofs.printed.Printable.{divisionByRounds-printable}
+use Rattle.printing.proofs.printed.Worths.{worth-by-own-marks}
 use Rattle.division_reading.specs.Stated.{Stated}
 use Rattle.division_reading.specs.Shape.{WellFormed}
 use Rattle.division_reading.proofs.Bundles.{sublist-bundle}
@@ -31,27 +34,36 @@ use Rattle.stated_truth.specs.Truth.{bundlesOf, noneStated, lineOf, worthTo, le
 use Rattle.own_divisions.specs.StatedBy.{statedLineBy, statedBy}
 use Rattle.own_divisions.proofs.CutBundles.{leastOf-allBundles}
 
-module _ (n m : ℕ) (table : List (List ℕ)) where
+module _ (sheet : Contents) where
+  abbrev n : ℕ
+  n = sheet .agents
+
+  abbrev m : ℕ
+  m = sheet .items
+
+  abbrev table : List (List ℕ)
+  table = sheet .table
+
   -- the values that agent i puts on the items
   abbrev valuesTo : ℕ → List ℕ
   valuesTo i = allValues m (valuation table i)
 
-  -- the box's division of the table
-  module _ (allowance : ℕ) (d : Division) (divided : answer n m table allowance ≡ accepted d) where
+  -- the box's division of the sheet
+  module _ (allowance : ℕ) (d : Division) (divided : answer sheet allowance ≡ accepted d) where
     within : CountsWithin n m
-    within = answer-accepted n m table allowance d divided .1
+    within = answer-accepted sheet allowance d divided .1
 
-    by-rounds : d ≡ divisionByRounds n m table
-    by-rounds = answer-accepted n m table allowance d divided .0
+    by-rounds : d ≡ divisionByRounds sheet
+    by-rounds = answer-accepted sheet allowance d divided .0
 
     abbrev stated : Stated
-    stated = statedBy n m table d
+    stated = statedBy sheet d
 
     -- what the division has for each agent, and its grade and margins
     bundle-sublist : {i : ℕ} → Mem i (range 1 n) → Sublist (nth [] (d .bundles) i) (range 1 m)
-    bundle-sublist {i} in-use = rw by-rounds (divisionByRounds-printable n m table (within .some) .of-items i in-use)
+    bundle-sublist {i} in-use = rw by-rounds (divisionByRounds-printable sheet (within .some) .of-items i in-use)
 
-    share-own : {i : ℕ} → Mem i (range 1 n) → nth 0 (d .shares) i ≡ shareOf n m table i
+    share-own : {i : ℕ} → Mem i (range 1 n) → nth 0 (d .shares) i ≡ shareOf sheet i
     unfolding divisionOf
     share-own in-use = rw by-rounds (nth-shares n m table in-use)
 
@@ -59,23 +71,23 @@ module _ (n m : ℕ) (table : List (List ℕ)) where
     unfolding divisionOf
     cut-own in-use = rw by-rounds (nth-cuts n m table in-use)
 
-    margins-own : d .margins ≡ marginsByTable n m table (d .bundles)
+    margins-own : d .margins ≡ marginsByTerms sheet (termsOf sheet) (d .bundles)
     unfolding divisionOf
     margins-own = rw by-rounds refl
 
-    grade-own : d .grade ≡ gradeByTable n m table (d .bundles)
+    grade-own : d .grade ≡ gradeByTerms sheet (termsOf sheet) (d .bundles)
     unfolding divisionOf
     grade-own = rw by-rounds refl
 
     -- it states its bundles
     bundles-stated : bundlesOf stated ≡ d .bundles
     bundles-stated =
-        map-map (λ l. l .bundle) (statedLineBy n m table d) (range 1 n)
-        ∙ map-nth-range [] (d .bundles) n (division-allocates n m table allowance d divided .bundle-each)
+        map-map (λ l. l .bundle) (statedLineBy sheet d) (range 1 n)
+        ∙ map-nth-range [] (d .bundles) n (division-allocates sheet allowance d divided .bundle-each)
 
     -- and in line i what it has for agent i
-    line-stated : {i : ℕ} → Mem i (range 1 n) → lineOf stated i ≡ statedLineBy n m table d i
-    line-stated in-use = nth-map-range (statedLineBy n m table d) noneStated n in-use
+    line-stated : {i : ℕ} → Mem i (range 1 n) → lineOf stated i ≡ statedLineBy sheet d i
+    line-stated in-use = nth-map-range (statedLineBy sheet d) noneStated n in-use
 
     -- the cut of a line is a partition of the items that reaches the share
     module _ {i : ℕ} (in-use : Mem i (range 1 n)) where
@@ -87,23 +99,23 @@ module _ (n m : ℕ) (table : List (List ℕ)) where
           let (each, places) = maximinPartition-within n (valuesTo i) (within .some) in
           rw cut-stated (allBundles-allocate n m (maximinPartition n (valuesTo i)) each (places ∙ length-map (range 1 m) (itemValue (valuation table i)) ∙ length-range 1 m))
 
-      cut-least : leastOfCut n m table i (lineOf stated i .cut) ≡ shareOf n m table i
+      cut-least : leastOfCut sheet i (lineOf stated i .cut) ≡ shareOf sheet i
       cut-least =
-          ap (leastOfCut n m table i) cut-stated
+          ap (leastOfCut sheet i) cut-stated
           ∙ leastOf-allBundles m (valuation table i) n (maximinPartition n (valuesTo i))
           ∙ leastBundle-maximinPartition n (valuesTo i) (within .some)
 
-      worth-stated : lineOf stated i .worth ≡ worthTo n m table i (lineOf stated i .bundle)
-      worth-stated = rw (line-stated in-use) (sym (value-allValues m (valuation table i) (bundle-sublist in-use)))
+      worth-stated : lineOf stated i .worth ≡ worthTo sheet i (lineOf stated i .bundle)
+      worth-stated = rw (line-stated in-use) (worth-by-own-marks sheet in-use allowance d divided ∙ sym (value-allValues m (valuation table i) (bundle-sublist in-use)))
 
-      share-stated : lineOf stated i .share ≡ shareOf n m table i
+      share-stated : lineOf stated i .share ≡ shareOf sheet i
       share-stated = ap (λ l. l .share) (line-stated in-use) ∙ share-own in-use
 
     -- "all it states is true"
-    pub own-division-true : AllTrue n m table (statedBy n m table d)
+    pub own-division-true : AllTrue sheet (termsOf sheet) (statedBy sheet d)
     own-division-true =
         record {
-          divides = rw bundles-stated (division-allocates n m table allowance d divided);
+          divides = rw bundles-stated (division-allocates sheet allowance d divided);
           cut-divides = λ i lo hi. cut-allocates (in-range 1 n i lo (omega arith));
           worth-true = λ i lo hi. worth-stated (in-range 1 n i lo (omega arith));
           share-true = λ i lo hi. share-stated (in-range 1 n i lo (omega arith));
@@ -112,17 +124,17 @@ module _ (n m : ℕ) (table : List (List ℕ)) where
         }
 
     -- and it has the shape of what is read
-    pub own-division-shape : WellFormed n m (statedBy n m table d)
+    pub own-division-shape : WellFormed n m (statedBy sheet d)
     own-division-shape =
         record {
-          line-each = length-map (range 1 n) (statedLineBy n m table d) ∙ length-range 1 n;
-          bundle = λ l ml. let (i, mi, e) = Memᴰ·of-map (statedLineBy n m table d) (range 1 n) ml in rw (← e) (sublist-bundle m (bundle-sublist mi));
-          cut-each = λ l ml. let (i, mi, e) = Memᴰ·of-map (statedLineBy n m table d) (range 1 n) ml in ap (λ l. length (l .cut)) (sym e) ∙ length-map (range 1 n) _ ∙ length-range 1 n;
+          line-each = length-map (range 1 n) (statedLineBy sheet d) ∙ length-range 1 n;
+          bundle = λ l ml. let (i, mi, e) = Memᴰ·of-map (statedLineBy sheet d) (range 1 n) ml in rw (← e) (sublist-bundle m (bundle-sublist mi));
+          cut-each = λ l ml. let (i, mi, e) = Memᴰ·of-map (statedLineBy sheet d) (range 1 n) ml in ap (λ l. length (l .cut)) (sym e) ∙ length-map (range 1 n) _ ∙ length-range 1 n;
           cut-bundle = λ l ml b mb.
-              let (i, mi, e) = Memᴰ·of-map (statedLineBy n m table d) (range 1 n) ml in
+              let (i, mi, e) = Memᴰ·of-map (statedLineBy sheet d) (range 1 n) ml in
               sublist-bundle m (allBundles-sublist n m (nth [] (d .cuts) i) b (subst (λ l. Mem b (l .cut)) (sym e) mb));
         }
 
     -- "its margin" is by the table, for each agent
-    pub own-division-margins : marginsByTable n m table (bundlesOf (statedBy n m table d)) ≡ d .margins
-    own-division-margins = ap (marginsByTable n m table) bundles-stated ∙ sym margins-own
+    pub own-division-margins : marginsByTerms sheet (termsOf sheet) (bundlesOf (statedBy sheet d)) ≡ d .margins
+    own-division-margins = ap (marginsByTerms sheet (termsOf sheet)) bundles-stated ∙ sym margins-own

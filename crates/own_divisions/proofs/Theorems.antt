@@ -12,8 +12,8 @@ use Rattle.strict_text.specs.StrictText.{strictText}
 use Rattle.strict_text.proofs.RoundTrip.{reading-withinLimits}
 use Rattle.writing.specs.Filled.{filling}
 use Rattle.growth.proofs.Growths.{mostGrowths}
+use Rattle.rounds.specs.Division.{divisionByRounds}
 use Rattle.rounds.proofs.Answers.{answer-with-most}
-use Rattle.sheet_to_division.specs.DividedFrom.{divisionOfSheet}
 use Rattle.sheet_to_judgement.specs.AcceptedText.{acceptedText, longestAccepted}
 use Rattle.sheet_to_judgement.specs.TextJudged.{textJudged, judgementFrom}
 use Rattle.sheet_to_judgement.proofs.Longest.{accepted-judged}
@@ -25,22 +25,20 @@ use Rattle.own_divisions.proofs.PrintedText.{printed-is-stated}
 
 module _ (text : List ℕ) (sheet : Contents) (read : reading text ≡ accepted sheet) where
   -- it is judged with the margins of the division: all that it states is true
-  pub own-division-accepted : textJudged (sheetAndDivision sheet) ≡ accepted (divisionOfSheet sheet .margins)
+  pub own-division-accepted : textJudged (sheetAndDivision sheet) ≡ accepted (divisionByRounds sheet .margins)
   own-division-accepted =
-      let n = sheet .agents in
-      let m = sheet .items in
-      let d = divisionOfSheet sheet in
-      let divided = answer-with-most n m (sheet .table) mostGrowths (omega arith) (accepted-counts text sheet read) in
-      ap (λ behind. textJudged (strictText sheet ++ behind)) (printed-is-stated n m (sheet .table) d)
-      ∙ true-division-accepted sheet (reading-withinLimits sheet text read) (statedBy n m (sheet .table) d)
-      (own-division-shape n m (sheet .table) mostGrowths d divided) (own-division-true n m (sheet .table) mostGrowths d divided)
-      ∙ ap accepted (own-division-margins n m (sheet .table) mostGrowths d divided)
+      let d = divisionByRounds sheet in
+      let divided = answer-with-most sheet mostGrowths (omega arith) (accepted-counts text sheet read) in
+      ap (λ behind. textJudged (strictText sheet ++ behind)) (printed-is-stated sheet d)
+      ∙ true-division-accepted sheet (reading-withinLimits sheet text read) (statedBy sheet d)
+      (own-division-shape sheet mostGrowths d divided) (own-division-true sheet mostGrowths d divided)
+      ∙ ap accepted (own-division-margins sheet mostGrowths d divided)
 
   -- "meets no refusal but 10"
-  pub own-division-no-refusal-but-10 : (room : ℕ) → judgementFrom (sheetAndDivision sheet) room ≡ filling room (acceptedText (divisionOfSheet sheet .margins))
+  pub own-division-no-refusal-but-10 : (room : ℕ) → judgementFrom (sheetAndDivision sheet) room ≡ filling room (acceptedText (divisionByRounds sheet .margins))
   unfolding judgementFrom
   own-division-no-refusal-but-10 room = ap (λ a. andThen a (λ margins. filling room (acceptedText margins))) own-division-accepted
 
   -- and none with a buffer of `longestAccepted` bytes or more
-  pub own-division-never-refused : (room : ℕ) → longestAccepted ≤ room → judgementFrom (sheetAndDivision sheet) room ≡ accepted (acceptedText (divisionOfSheet sheet .margins))
-  own-division-never-refused room enough = accepted-judged (sheetAndDivision sheet) (divisionOfSheet sheet .margins) own-division-accepted room enough
+  pub own-division-never-refused : (room : ℕ) → longestAccepted ≤ room → judgementFrom (sheetAndDivision sheet) room ≡ accepted (acceptedText (divisionByRounds sheet .margins))
+  own-division-never-refused room enough = accepted-judged (sheetAndDivision sheet) (divisionByRounds sheet .margins) own-division-accepted room enough

@@ -3,9 +3,9 @@ use mathlib.Core.List.{List, _++_}
 use Prim.Native.Nat.{ℕ}
 use Rattle.sheet.specs.Contents.{Contents}
 use Rattle.strict_text.specs.StrictText.{strictText}
+use Rattle.rounds.specs.Division.{divisionByRounds}
 use Rattle.printing.specs.Printed.{printedWithoutCutters}
-use Rattle.sheet_to_division.specs.DividedFrom.{divisionOfSheet}
 
 -- "Behind its strict sheet and without its cutters line, a division the box prints" (document 02, order 5)
 abbrev pub sheetAndDivision : Contents → List ℕ
-sheetAndDivision sheet = strictText sheet ++ printedWithoutCutters (sheet .agents) (sheet .items) (sheet .table) (divisionOfSheet sheet)
+sheetAndDivision sheet = strictText sheet ++ printedWithoutCutters sheet (divisionByRounds sheet)
