@@ -8,9 +8,9 @@ use Rattle.lists.proofs.members.Permuted.{length-perm, total-perm}
 use Rattle.growth.specs.Growth.{growths}
 use Rattle.maximin.specs.Share.{maximinShare, maximinPartition}
 use Rattle.maximin.proofs.AnyOrder.{maximinShare-perm}
-use Rattle.walking.specs.Walk.{searching, searchingAfter}
+use Rattle.walking.specs.Walk.{finding, findingAfter}
 use Rattle.cut.specs.internal.Allowed.{Allowed}
-use Rattle.cut.proofs.Whole.{foundWith, searching-share, searching-goal}
+use Rattle.cut.proofs.Whole.{foundWith, finding-share, finding-goal}
 
 module _ (n : ℕ) (ordered values : List ℕ) (allowance : ℕ) (same : Perm ordered values) (a : Allowed values n allowance) where
   allowed-ordered : Allowed ordered n allowance
@@ -29,20 +29,20 @@ module _ (n : ℕ) (ordered values : List ℕ) (allowance : ℕ) (same : Perm or
 
   module _ (ceiling goal : ℕ) (enough : growths n (length values) ≤ allowance) (under : maximinShare n values ≤ ceiling) where
     -- what the first search finds is the share
-    first-share : 1 ≤ goal → goal ≤ maximinShare n values + 1 → searching ordered n ceiling goal allowance .best .goal - 1 ≡ maximinShare n values
+    first-share : 1 ≤ goal → goal ≤ maximinShare n values + 1 → finding ordered n ceiling goal allowance .best .goal - 1 ≡ maximinShare n values
     first-share positive low =
         let enough-ordered = subst (λ k. growths n k ≤ allowance) (sym (length-perm same)) enough in
         omega (
           arith,
           same-share,
-          searching-goal n ordered allowance ceiling goal allowed-ordered (omega (arith, same-share)) enough-ordered positive (omega (arith, same-share)),
+          finding-goal n ordered allowance ceiling goal allowed-ordered (omega (arith, same-share)) enough-ordered positive (omega (arith, same-share)),
         )
 
     -- and the second ends at it and its first partition
-    pub searching-after : 1 ≤ goal → goal ≤ maximinShare n values + 1
-        → searchingAfter ordered values n ceiling goal allowance ≡ foundWith n values allowance (maximinShare n values) (maximinPartition n values)
-    unfolding searchingAfter
-    searching-after positive low =
+    pub finding-after : 1 ≤ goal → goal ≤ maximinShare n values + 1
+        → findingAfter ordered values n ceiling goal allowance ≡ foundWith n values allowance (maximinShare n values) (maximinPartition n values)
+    unfolding findingAfter
+    finding-after positive low =
         let share = maximinShare n values in
-        ap (λ least. searching values n least least allowance) (first-share positive low)
-        ∙ searching-share n values allowance share share a (omega arith) enough (omega arith)
+        ap (λ least. finding values n least least allowance) (first-share positive low)
+        ∙ finding-share n values allowance share share a (omega arith) enough (omega arith)

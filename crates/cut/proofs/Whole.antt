@@ -19,8 +19,8 @@ use Rattle.maximin.specs.Share.{bundleValue, leastBundle, maximinShare, maximin
 use Rattle.cut.specs.Outcome.{lookedAt, placed}
 use Rattle.reach.specs.Loads.{loadOf, leastLoaded}
 use Rattle.walk_steps.specs.Scan.{searched}
-use Rattle.walking.specs.Walk.{reached, start, walked, searching}
-use Rattle.walking.proofs.Limits.{within-searchable}
+use Rattle.walking.specs.Walk.{reached, start, walked, finding}
+use Rattle.walking.proofs.Limits.{limits-searchable}
 use Rattle.cut.specs.internal.Allowed.{Allowed}
 use Rattle.walk_steps.specs.declared.Search.{Search}
 use Rattle.cut.proofs.Allowance.{greatest-growth, greatest-looked-at, firstBest-looked-at}
@@ -54,40 +54,40 @@ module _ (n : ℕ) (values : List ℕ) (allowance : ℕ) where
     )
 
     -- it searches the growth partitions of the values
-    searching-searched : searching values n ceiling goal allowance ≡ searched (leastBundle n values) (sets (zeros mostItems) 0) (start goal allowance) (growthPartitions n (length values))
-    unfolding searching walked
-    searching-searched =
-        rw (within-searchable values n (record { some-bundles = a .some-bundles; few-bundles = a .few-bundles; few = a .few; small = a .small }))
+    finding-searched : finding values n ceiling goal allowance ≡ searched (leastBundle n values) (sets (zeros mostItems) 0) (start goal allowance) (growthPartitions n (length values))
+    unfolding finding walked
+    finding-searched =
+        rw (limits-searchable values n (record { some-bundles = a .some-bundles; few-bundles = a .few-bundles; few = a .few; small = a .small }))
         (searched-cong (reached ceiling n (zeros mostAgents) values) (leastBundle n values) (sets (zeros mostItems) 0) (start goal allowance) (growthPartitions n (length values)) reached-least)
 
     -- and ends at the first best of those that its allowance reaches, where these reach the goal
-    pub searching-best : goal ≤ bestLeast → searching values n ceiling goal allowance ≡ foundWith bestLeast bestPartition
+    pub finding-best : goal ≤ bestLeast → finding values n ceiling goal allowance ≡ foundWith bestLeast bestPartition
     unfolding growths
-    searching-best reached =
+    finding-best reached =
         let f = leastBundle n values in
         let all = growthPartitions n (length values) in
         let ls = lookedAt n values allowance in
         let (l, m) = take-inhabited allowance all (a .some-allowance) (growth-inhabited n 0 (length values) (a .some-bundles)) in
         let inside = take-mem allowance all (firstBest-reaches f ls m .0) in
-        searching-searched
+        finding-searched
         ∙ ap (λ b. searchOf b (allowance - length all)) (scan-best f (sets (zeros mostItems) 0) (start goal allowance .best) ls m reached)
         ∙ ap (λ l. searchOf (record { goal = bestLeast + 1; partition = l }) (allowance - length all))
         (sets-blank mostItems 0 bestPartition (omega (arith, listed-grows n 0 (length values) inside .1, a .few)))
 
     module _ (enough : growths n (length values) ≤ allowance) where
       -- with an allowance that is enough, at the share and the cut, where the share reaches the goal
-      pub searching-share : goal ≤ maximinShare n values → searching values n ceiling goal allowance ≡ foundWith (maximinShare n values) (maximinPartition n values)
-      searching-share reached =
-          searching-best (omega (arith, greatest-looked-at n values allowance (a .some-bundles) enough))
+      pub finding-share : goal ≤ maximinShare n values → finding values n ceiling goal allowance ≡ foundWith (maximinShare n values) (maximinPartition n values)
+      finding-share reached =
+          finding-best (omega (arith, greatest-looked-at n values allowance (a .some-bundles) enough))
           ∙ ap (λ least. foundWith least bestPartition) (greatest-looked-at n values allowance (a .some-bundles) enough)
           ∙ ap (foundWith (maximinShare n values)) (firstBest-looked-at n values allowance (a .some-bundles) enough)
 
       -- with the goal above the share in any case, where it starts no higher
-      pub searching-goal : 1 ≤ goal → goal ≤ maximinShare n values + 1 → searching values n ceiling goal allowance .best .goal ≡ maximinShare n values + 1
+      pub finding-goal : 1 ≤ goal → goal ≤ maximinShare n values + 1 → finding values n ceiling goal allowance .best .goal ≡ maximinShare n values + 1
       unfolding growths
-      searching-goal positive low =
+      finding-goal positive low =
           let all = growthPartitions n (length values) in
           let f = leastBundle n values in
-          ap (λ s. s .best .goal) (searching-searched ∙ searched-all f (sets (zeros mostItems) 0) (start goal allowance) all enough)
+          ap (λ s. s .best .goal) (finding-searched ∙ searched-all f (sets (zeros mostItems) 0) (start goal allowance) all enough)
           ∙ scan-goal f (sets (zeros mostItems) 0) (start goal allowance .best) all positive
           ∙ omega (arith, greatest-growth n values (a .some-bundles))

@@ -55,7 +55,7 @@ namesItems set = all (λ k. leb k mostItems) (itemsOf set)
 -- 4: "The number .. of piles handed to the cut, lies outside 1 to 6"
 -- 5: "the set handed to the cut names a piece above 12"
 -- 14: "by the cut when A is 0"
-unfoldable pub cutting : List ℕ → ℕ → ℕ → ℕ → Answer Found
+unfoldable pub cutting : (valuation : List ℕ) (set bundles allowance : ℕ) → Answer Found
 cutting valuation set bundles allowance =
     require 4 (within mostAgents bundles)
     (require 5 (namesItems set)

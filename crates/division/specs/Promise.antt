@@ -12,7 +12,7 @@ use Rattle.sheet.specs.Limits.{mostAgents, CountsWithin}
 use Rattle.sheet.specs.Sets.{itemsOf}
 use Rattle.terms.specs.Terms.{largestOdd}
 use Rattle.sheet.specs.Valuations.{value}
-use Rattle.sheet.specs.Tables.{valuation}
+use Rattle.sheet.specs.Tables.{valuationOf}
 use Rattle.sheet.specs.Contents.{Contents}
 use Rattle.sheet.specs.Allocations.{Allocates}
 use Rattle.growth.specs.Growth.{growths}
@@ -41,7 +41,7 @@ module _ (sheet : Contents) where
   -- "a pile for which (3K - 1) × worth is at least 2K × share"
   abbrev pub keepsPromise : ℕ → List ℕ → Bool
   keepsPromise agent bundle =
-      leb (2 * largestOdd (sheet .agents) * shareOf sheet agent) ((3 * largestOdd (sheet .agents) - 1) * value (valuation (sheet .table) agent) bundle)
+      leb (2 * largestOdd (sheet .agents) * shareOf sheet agent) ((3 * largestOdd (sheet .agents) - 1) * value (valuationOf (sheet .table) agent) bundle)
 
   -- "The second list is, rising, the yards holding a pile for which" the promise is kept
   abbrev pub satisfiedAgents : List (List ℕ) → List ℕ

@@ -8,7 +8,7 @@ ghost use Rattle.sheet.specs.Sets.{itemsOf};
 ghost use Rattle.cut.specs.Outcome.{placed};
 ghost use Rattle.matching.specs.Matching.{cutterOf};
 ghost use Rattle.serving.specs.Serving.{agentsIn};
-ghost use Rattle.division.specs.internal.Allocation.{nothing, stored, withRound, allottedAll};
+ghost use Rattle.division.specs.internal.Allocation.{emptyAllocation, stored, withRound, allottedAll};
 ghost use Rattle.division.specs.internal.Left.{instanceFrom, cutLeft, Cuttable, EnoughFor, Ready};
 use cut::Partition;
 use cut::cut;
@@ -30,7 +30,7 @@ pub struct Allocation {
 
 // Before the first round nothing is handed out.
 pub(crate) fn nothing_handed_out() -> Allocation
-    ensures { λ r. ⌜ r ≡ nothing ⌝ }
+    ensures { λ r. ⌜ r ≡ emptyAllocation ⌝ }
 {
     Allocation {
         bundles: [0; Sheet::AGENTS],

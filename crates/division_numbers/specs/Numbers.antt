@@ -15,16 +15,16 @@ abbrev pub gradeDigits : ℕ
 gradeDigits = 1
 
 -- "a worth or share has at most eleven digits": (worth 5) (share 5) (cut
-unfoldable pub amounts : List Token → Option (ℕ × ℕ × List Token)
-amounts ts₀ = do
+unfoldable pub statedAmounts : List Token → Option (ℕ × ℕ × List Token)
+statedAmounts ts₀ = do
   (worth, ts₁) ← numberAfter (form beforeWorth) sumDigits ts₀
   (share, ts₂) ← numberAfter (form beforeShare) sumDigits ts₁
   ts₃ ← follow (form beforeCut) ts₂
   some (worth, share, ts₃)
 
 -- "The head repeats the counts and adds the grade": (division (yards 2) (pieces 3) (grade 3))
-unfoldable pub head : ℕ → ℕ → List Token → Option (ℕ × List Token)
-head agents items ts₀ = do
+unfoldable pub divisionHead : ℕ → ℕ → List Token → Option (ℕ × List Token)
+divisionHead agents items ts₀ = do
   ts₁ ← followNumber (form beforeCounts) countDigits agents ts₀
   ts₂ ← followNumber (form beforeItems) countDigits items ts₁
   (grade, ts₃) ← numberAfter (form beforeGrade) gradeDigits ts₂

@@ -2,7 +2,7 @@
 ghost use mathlib.Core.Path.{_≡_};
 ghost use Rattle.tokeniser.specs.Places.{tokensAt};
 ghost use Rattle.lexing.specs.Results.{numberFrom};
-ghost use Rattle.division_numbers.specs.Numbers.{amounts, head};
+ghost use Rattle.division_numbers.specs.Numbers.{statedAmounts, divisionHead};
 ghost use Rattle.division_numbers.specs.Results.{amountsFrom};
 use lexing::forms::Followed;
 use lexing::forms::Number;
@@ -30,30 +30,30 @@ const BEFORE_CUT: [u8; 6] = *b") (cut";
 const GRADE_DIGITS: usize = 1;
 
 // A worth and a share, and the place after them.
-pub enum Amounts {
+pub enum StatedAmounts {
     Values(u64, u64, Cursor),
     Missed,
 }
 
 // (worth 5) (share 5) (cut
-pub fn read_amounts(s: &[u8], c: Cursor) -> Amounts
-    ensures { λ r. ⌜ r ≡ amountsFrom (now (s .entry)) c (amounts (tokensAt (now (s .entry)) c)) ⌝ }
+pub fn read_amounts(s: &[u8], c: Cursor) -> StatedAmounts
+    ensures { λ r. ⌜ r ≡ amountsFrom (now (s .entry)) c (statedAmounts (tokensAt (now (s .entry)) c)) ⌝ }
 {
     let Number::Value(worth, c1) = number_after(s, c, &BEFORE_WORTH, Sheet::SUM_DIGITS) else {
-        return Amounts::Missed;
+        return StatedAmounts::Missed;
     };
     let Number::Value(share, c2) = number_after(s, c1, &BEFORE_SHARE, Sheet::SUM_DIGITS) else {
-        return Amounts::Missed;
+        return StatedAmounts::Missed;
     };
     let Followed::At(c3) = follow(s, c2, &BEFORE_CUT) else {
-        return Amounts::Missed;
+        return StatedAmounts::Missed;
     };
-    Amounts::Values(worth, share, c3)
+    StatedAmounts::Values(worth, share, c3)
 }
 
 // (division (yards 2) (pieces 3) (grade 3))
 pub fn read_head(s: &[u8], c: Cursor, agents: usize, items: usize) -> Number
-    ensures { λ r. ⌜ r ≡ numberFrom (now (s .entry)) c (head agents items (tokensAt (now (s .entry)) c)) ⌝ }
+    ensures { λ r. ⌜ r ≡ numberFrom (now (s .entry)) c (divisionHead agents items (tokensAt (now (s .entry)) c)) ⌝ }
 {
     let Followed::At(c1) = follow_number(s, c, &BEFORE_COUNTS, Sheet::COUNT_DIGITS, agents) else {
         return Number::Missed;

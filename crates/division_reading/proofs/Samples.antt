@@ -11,7 +11,7 @@ use Rattle.lexing.specs.Forms.{follow, inTurn}
 use Rattle.lexing.specs.Numbers.{numberAfter, number, digitsAfter, isNumber}
 use Rattle.sheet_lines.specs.Grammar.{endLine}
 use Rattle.division_reading.specs.Stated.{Stated}
-use Rattle.division_reading.specs.Grammar.{risingItems, bundleAfter, bundleInTurn, amounts, yardLine, head, divisionText, divisionWithin}
+use Rattle.division_reading.specs.Grammar.{risingItems, bundleAfter, bundleInTurn, statedAmounts, divisionLine, divisionHead, divisionText, readingDivision}
 
 -- what the division of sheet a states
 abbrev pub division-a : Stated
@@ -47,13 +47,13 @@ samples =
     ∷ ("", none)
     ∷ []
 
-pub samples-read : map (λ p. divisionWithin 2 3 (tokens (bytes (p .0)))) samples ≡ map (λ p. p .1) samples
-unfolding divisionWithin divisionText head yardLine amounts bundleInTurn bundleAfter risingItems endLine numberAfter number digitsAfter isNumber follow inTurn onFirst lines beforeRemark extended words lineTokens tokens flatMap
+pub samples-read : map (λ p. readingDivision 2 3 (tokens (bytes (p .0)))) samples ≡ map (λ p. p .1) samples
+unfolding readingDivision divisionText divisionHead divisionLine statedAmounts bundleInTurn bundleAfter risingItems endLine numberAfter number digitsAfter isNumber follow inTurn onFirst lines beforeRemark extended words lineTokens tokens flatMap
 samples-read = refl
 
 -- empty piles: `(pile)`, and `()` in a cut; each has the set 0
 pub empty-piles-read :
-    divisionWithin 2 1 (tokens (bytes "(division (yards 2) (pieces 1) (grade 3))\n(yard 1 (pile 1) (worth 7) (share 0) (cut (1) ()))\n(yard 2 (pile) (worth 0) (share 0) (cut () (1)))\n(end)\n"))
+    readingDivision 2 1 (tokens (bytes "(division (yards 2) (pieces 1) (grade 3))\n(yard 1 (pile 1) (worth 7) (share 0) (cut (1) ()))\n(yard 2 (pile) (worth 0) (share 0) (cut () (1)))\n(end)\n"))
     ≡ some
     (record {
       grade = 3;
@@ -61,5 +61,5 @@ pub empty-piles-read :
           ∷ record { bundle = []; worth = 0; share = 0; cut = [] ∷ (1 ∷ []) ∷ [] }
           ∷ [];
     })
-unfolding divisionWithin divisionText head yardLine amounts bundleInTurn bundleAfter risingItems endLine numberAfter number digitsAfter isNumber follow inTurn onFirst lines beforeRemark extended words lineTokens tokens flatMap
+unfolding readingDivision divisionText divisionHead divisionLine statedAmounts bundleInTurn bundleAfter risingItems endLine numberAfter number digitsAfter isNumber follow inTurn onFirst lines beforeRemark extended words lineTokens tokens flatMap
 empty-piles-read = refl

@@ -17,12 +17,12 @@ use Rattle.sheet_lines.specs.Grammar.{endLine}
 use Rattle.division_reading.specs.DivisionForms.{beforeCounts, beforeGrade, beforeWorth, beforeShare, beforeCut, beforeCutPile}
 use Rattle.division_reading.specs.Stated.{StatedLine, Stated}
 use Rattle.division_reading.specs.Shape.{IsBundle, WellFormed, FewDigits}
-use Rattle.division_reading.specs.Grammar.{gradeDigits, bundleAfter, bundleInTurn, amounts, cutBundles, yardLine, yardLines, head, divisionText}
+use Rattle.division_reading.specs.Grammar.{gradeDigits, bundleAfter, bundleInTurn, statedAmounts, cutBundles, divisionLine, divisionLines, divisionHead, divisionText}
 use Rattle.division_reading.proofs.Bundles.{bundle-read, bundle-in-turn-read}
 
 -- a worth and a share have at most eleven digits
-amounts-below : (ts : List Token) → Holds (λ r. (r .0 < 10 ^ sumDigits) × (r .1 < 10 ^ sumDigits)) (amounts ts)
-unfolding amounts
+amounts-below : (ts : List Token) → Holds (λ r. (r .0 < 10 ^ sumDigits) × (r .1 < 10 ^ sumDigits)) (statedAmounts ts)
+unfolding statedAmounts
 amounts-below ts =
     then-holds _ (λ r. r .0 < 10 ^ sumDigits) (numberAfter (form beforeWorth) sumDigits ts) _ (numberAfter-below (form beforeWorth) sumDigits ts)
     (λ w worth. then-holds _ (λ r. r .0 < 10 ^ sumDigits) (numberAfter (form beforeShare) sumDigits (w .1)) _ (numberAfter-below (form beforeShare) sumDigits (w .1))
@@ -41,23 +41,23 @@ record LineRead (agents items : ℕ) (l : StatedLine) : Type 0 where
   cut-each : length (l .cut) ≡ agents
   cut-bundles : Each (IsBundle items) (l .cut)
 
-line-read : (agents items turn : ℕ) (ts : List Token) → Holds (λ r. LineRead agents items (r .0)) (yardLine agents items turn ts)
-unfolding yardLine
+line-read : (agents items turn : ℕ) (ts : List Token) → Holds (λ r. LineRead agents items (r .0)) (divisionLine agents items turn ts)
+unfolding divisionLine
 line-read agents items turn ts =
     then-holds _ (λ r. IsBundle items (r .0)) (bundleInTurn items turn ts) _ (bundle-in-turn-read items turn ts)
-    (λ b is-bundle. then-holds _ (λ r. (r .0 < 10 ^ sumDigits) × (r .1 < 10 ^ sumDigits)) (amounts (b .1)) _ (amounts-below (b .1))
+    (λ b is-bundle. then-holds _ (λ r. (r .0 < 10 ^ sumDigits) × (r .1 < 10 ^ sumDigits)) (statedAmounts (b .1)) _ (amounts-below (b .1))
     (λ a below. then-holds _ (λ r. (length (r .0) ≡ agents) × Each (IsBundle items) (r .0)) (cutBundles agents items (a .2)) _ (cut-read agents items (a .2))
     (λ c cut. read-holds _ (follow (form lineEnd) (c .1)) _
     (λ ts₁. record { bundle = is-bundle; worth-below = below .0; share-below = below .1; cut-each = cut .0; cut-bundles = cut .1 }))))
 
-lines-read : (agents items : ℕ) (ts : List Token) → Holds (λ r. (length (r .0) ≡ agents) × Each (LineRead agents items) (r .0)) (yardLines agents items ts)
+lines-read : (agents items : ℕ) (ts : List Token) → Holds (λ r. (length (r .0) ≡ agents) × Each (LineRead agents items) (r .0)) (divisionLines agents items ts)
 lines-read agents items ts =
-    let reader = yardLine agents items in
-    holds-both _ _ (yardLines agents items ts) (in-turn-length reader 1 agents ts) (in-turn-each reader (LineRead agents items) (line-read agents items) 1 agents ts)
+    let reader = divisionLine agents items in
+    holds-both _ _ (divisionLines agents items ts) (in-turn-length reader 1 agents ts) (in-turn-each reader (LineRead agents items) (line-read agents items) 1 agents ts)
 
 -- a grade has one digit
-pub grade-below : (agents items : ℕ) (ts : List Token) → Holds (λ r. r .0 < 10 ^ gradeDigits) (head agents items ts)
-unfolding head
+pub grade-below : (agents items : ℕ) (ts : List Token) → Holds (λ r. r .0 < 10 ^ gradeDigits) (divisionHead agents items ts)
+unfolding divisionHead
 grade-below agents items ts =
     read-holds _ (followNumber (form beforeCounts) countDigits agents ts) _ (λ ts₁.
     read-holds _ (followNumber (form beforeItems) countDigits items ts₁) _ (λ ts₂.
@@ -83,8 +83,8 @@ module _ (agents items : ℕ) (lines : List StatedLine) (each : Each (LineRead a
 division-holds : (agents items : ℕ) (ts : List Token) → Holds (λ d. WellFormed agents items d × FewDigits d) (divisionText agents items ts)
 unfolding divisionText
 division-holds agents items ts =
-    then-holds _ (λ r. r .0 < 10 ^ gradeDigits) (head agents items ts) _ (grade-below agents items ts)
-    (λ g below. then-holds _ (λ r. (length (r .0) ≡ agents) × Each (LineRead agents items) (r .0)) (yardLines agents items (g .1)) _ (lines-read agents items (g .1))
+    then-holds _ (λ r. r .0 < 10 ^ gradeDigits) (divisionHead agents items ts) _ (grade-below agents items ts)
+    (λ g below. then-holds _ (λ r. (length (r .0) ≡ agents) × Each (LineRead agents items) (r .0)) (divisionLines agents items (g .1)) _ (lines-read agents items (g .1))
     (λ r shape. read-holds _ (endLine ended (r .1)) _ (λ ts₃. (well-formed agents items (r .0) (shape .1) (g .0) (shape .0), few-digits agents items (r .0) (shape .1) (g .0) below))))
 
 module _ (agents items : ℕ) (ts : List Token) (d : Stated) (read : divisionText agents items ts ≡ some d) where

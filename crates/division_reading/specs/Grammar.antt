@@ -15,7 +15,7 @@ use Rattle.sheet_lines.specs.SheetForms.{beforeTurn, lineEnd}
 use Rattle.sheet_lines.specs.Grammar.{endLine}
 unfoldable pub use Rattle.bundle_reading.specs.Bundles.{risingItems, bundleAfter}
 pub use Rattle.division_numbers.specs.Numbers.{gradeDigits}
-unfoldable pub use Rattle.division_numbers.specs.Numbers.{amounts, head}
+unfoldable pub use Rattle.division_numbers.specs.Numbers.{statedAmounts, divisionHead}
 use Rattle.division_reading.specs.DivisionForms.{beforePile, beforeCutPile}
 use Rattle.division_reading.specs.Stated.{StatedLine, Stated}
 
@@ -30,26 +30,26 @@ abbrev pub cutBundles : ℕ → ℕ → List Token → Option (List (List ℕ) �
 cutBundles agents items ts = inTurn (λ number. bundleAfter (form beforeCutPile) items) 1 agents ts
 
 -- the line of one yard: (yard 1 (pile 1) (worth 5) (share 5) (cut (1) (2 3)))
-unfoldable pub yardLine : ℕ → ℕ → ℕ → List Token → Option (StatedLine × List Token)
-yardLine agents items turn ts₀ = do
+unfoldable pub divisionLine : (agents items turn : ℕ) → List Token → Option (StatedLine × List Token)
+divisionLine agents items turn ts₀ = do
   (bundle, ts₁) ← bundleInTurn items turn ts₀
-  (worth, share, ts₂) ← amounts ts₁
+  (worth, share, ts₂) ← statedAmounts ts₁
   (cut, ts₃) ← cutBundles agents items ts₂
   ts₄ ← follow (form lineEnd) ts₃
   some (record { bundle = bundle; worth = worth; share = share; cut = cut }, ts₄)
 
 -- one line a yard, from yard 1 upward
-abbrev pub yardLines : ℕ → ℕ → List Token → Option (List StatedLine × List Token)
-yardLines agents items ts = inTurn (yardLine agents items) 1 agents ts
+abbrev pub divisionLines : ℕ → ℕ → List Token → Option (List StatedLine × List Token)
+divisionLines agents items ts = inTurn (divisionLine agents items) 1 agents ts
 
 -- "a division as the box prints it, but without the cutters line": "the last line is `(end)`", and nothing stands behind it
 unfoldable pub divisionText : ℕ → ℕ → List Token → Option Stated
 divisionText agents items ts₀ = do
-  (grade, ts₁) ← head agents items ts₀
-  (lines, ts₂) ← yardLines agents items ts₁
+  (grade, ts₁) ← divisionHead agents items ts₀
+  (lines, ts₂) ← divisionLines agents items ts₁
   ts₃ ← endLine ended ts₂
   some (record { grade = grade; lines = lines })
 
 -- no sheet has counts beyond its limits, and no division of one is read
-unfoldable pub divisionWithin : ℕ → ℕ → List Token → Option Stated
-divisionWithin agents items ts = cond (leb agents mostAgents && leb items mostItems) (divisionText agents items ts) none
+unfoldable pub readingDivision : ℕ → ℕ → List Token → Option Stated
+readingDivision agents items ts = cond (leb agents mostAgents && leb items mostItems) (divisionText agents items ts) none

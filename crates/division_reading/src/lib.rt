@@ -2,7 +2,7 @@
 ghost use mathlib.Core.Path.{_≡_};
 ghost use mathlib.Core.Option.{none};
 ghost use Rattle.tokeniser.specs.Places.{tokensAt};
-ghost use Rattle.division_reading.specs.Grammar.{divisionWithin};
+ghost use Rattle.division_reading.specs.Grammar.{readingDivision};
 ghost use Rattle.division_reading.specs.Outcome.{blankLine, blankLines, kept};
 use division_numbers::read_head;
 use lexing::forms::Followed;
@@ -63,7 +63,7 @@ fn unread() -> Stated
 
 // The division that stands at a place of a text and ends it, of a sheet with these counts.
 pub fn read_division(s: &[u8], c: Cursor, agents: usize, items: usize) -> Stated
-    ensures { λ r. ⌜ r ≡ kept (divisionWithin agents items (tokensAt (now (s .entry)) c)) ⌝ }
+    ensures { λ r. ⌜ r ≡ kept (readingDivision agents items (tokensAt (now (s .entry)) c)) ⌝ }
 {
     if Sheet::AGENTS < agents {
         return unread();
@@ -74,7 +74,7 @@ pub fn read_division(s: &[u8], c: Cursor, agents: usize, items: usize) -> Stated
     let Number::Value(grade, first) = read_head(s, c, agents, items) else {
         return unread();
     };
-    let read = lines::yard_lines(s, first, agents, items);
+    let read = lines::division_lines(s, first, agents, items);
     if !read.read {
         return unread();
     }

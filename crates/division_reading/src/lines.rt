@@ -4,7 +4,7 @@ ghost use mathlib.Core.Path.{_≡_};
 ghost use Rattle.sheet.specs.Limits.{mostAgents, mostItems};
 ghost use Rattle.tokeniser.specs.Places.{tokensAt};
 ghost use Rattle.bundle_reading.specs.Results.{bundleFrom};
-ghost use Rattle.division_reading.specs.Grammar.{bundleInTurn, cutBundles, yardLine, yardLines};
+ghost use Rattle.division_reading.specs.Grammar.{bundleInTurn, cutBundles, divisionLine, divisionLines};
 ghost use Rattle.division_reading.specs.internal.Results.{cutFrom, unreadLine, lineFrom, linesFrom};
 use crate::StatedLine;
 use crate::blank_line;
@@ -13,7 +13,7 @@ use crate::forms::BEFORE_CUT_PILE;
 use crate::forms::BEFORE_PILE;
 use bundle_reading::Bundle;
 use bundle_reading::bundle_after;
-use division_numbers::Amounts;
+use division_numbers::StatedAmounts;
 use division_numbers::read_amounts;
 use lexing::forms::Followed;
 use lexing::forms::follow;
@@ -96,15 +96,15 @@ fn unread() -> Line
 }
 
 // (yard 1 (pile 1) (worth 5) (share 5) (cut (1) (2 3)))
-fn yard_line(s: &[u8], c: Cursor, turn: usize, agents: usize, items: usize) -> Line
+fn division_line(s: &[u8], c: Cursor, turn: usize, agents: usize, items: usize) -> Line
     requires { ⌜ agents ≤ mostAgents ⌝ }
     requires { ⌜ items ≤ mostItems ⌝ }
-    ensures { λ r. ⌜ r ≡ lineFrom (now (s .entry)) c (yardLine agents items turn (tokensAt (now (s .entry)) c)) ⌝ }
+    ensures { λ r. ⌜ r ≡ lineFrom (now (s .entry)) c (divisionLine agents items turn (tokensAt (now (s .entry)) c)) ⌝ }
 {
     let Bundle::Items(bundle, c1) = bundle_in_turn(s, c, turn, items) else {
         return unread();
     };
-    let Amounts::Values(worth, share, c2) = read_amounts(s, c1) else {
+    let StatedAmounts::Values(worth, share, c2) = read_amounts(s, c1) else {
         return unread();
     };
     let cut = read_cut(s, c2, agents, items);
@@ -129,16 +129,16 @@ fn yard_line(s: &[u8], c: Cursor, turn: usize, agents: usize, items: usize) -> L
 }
 
 // The lines of the yards, from yard 1 upward.
-pub(crate) fn yard_lines(s: &[u8], c: Cursor, agents: usize, items: usize) -> Lines
+pub(crate) fn division_lines(s: &[u8], c: Cursor, agents: usize, items: usize) -> Lines
     requires { ⌜ agents ≤ mostAgents ⌝ }
     requires { ⌜ items ≤ mostItems ⌝ }
-    ensures { λ r. ⌜ r ≡ linesFrom (now (s .entry)) c (yardLines agents items (tokensAt (now (s .entry)) c)) ⌝ }
+    ensures { λ r. ⌜ r ≡ linesFrom (now (s .entry)) c (divisionLines agents items (tokensAt (now (s .entry)) c)) ⌝ }
 {
     let mut lines = blank_lines();
     let mut here = c;
     let mut k = 0;
     while k < agents {
-        let read = yard_line(s, here, k + 1, agents, items);
+        let read = division_line(s, here, k + 1, agents, items);
         here = read.next;
         if !read.read {
             return Lines {

@@ -15,12 +15,12 @@ use Rattle.exact_search.specs.declared.Answer.the-variants.{Refused, None, Foun
 use Rattle.exact_search.specs.declared.Outcome.{Outcome}
 use Rattle.exact_search.proofs.Outcomes.{refused-answered, none-answered, none-sets, found-answered, found-sets}
 use Rattle.sheet_to_exact.specs.Showing.{exactFrom, Shown}
-use Rattle.exact_c.specs.Lent.{storeFound, storeBundles, TableStored, TextStored}
+use Rattle.exact_c.specs.Lent.{storeFound, storeShown, TableStored, TextStored}
 
 module _ {sheet : Contents} {o : Outcome} (s : Searched sheet o) {oldFound : ℕ} {oldBundles : List ℕ} where
   -- where the search answers a, what a says is stored
   stored-of : (a : Answer Bool) → searching sheet ≡ a → {newFound : ℕ} {newBundles : List ℕ}
-      → newFound ≡ after storeFound a oldFound → newBundles ≡ after (storeBundles (s .bundles)) a oldBundles
+      → newFound ≡ after storeFound a oldFound → newBundles ≡ after (storeShown (s .bundles)) a oldBundles
       → TableStored sheet oldFound oldBundles (numberOf a) newFound newBundles
   stored-of a e found sets =
       record {
@@ -28,7 +28,7 @@ module _ {sheet : Contents} {o : Outcome} (s : Searched sheet o) {oldFound : ℕ
         may-show = s .may-show;
         answered = ap numberOf (sym e);
         found-stored = found ∙ ap (λ b. after storeFound b oldFound) (sym e);
-        bundles-stored = sets ∙ ap (λ b. after (storeBundles (s .bundles)) b oldBundles) (sym e);
+        bundles-stored = sets ∙ ap (λ b. after (storeShown (s .bundles)) b oldBundles) (sym e);
       }
 
   -- a refused sheet answers its number, and the places keep their content

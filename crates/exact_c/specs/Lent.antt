@@ -20,9 +20,9 @@ abbrev pub storeFound : Bool → ℕ → ℕ
 storeFound exists old = bit exists
 
 -- the bundles that are shown, as sets: a place for each agent that a sheet may have; zeros where there is none
-abbrev pub storeBundles : List (List ℕ) → Bool → List ℕ → List ℕ
-storeBundles bundles true old = padded mostAgents 0 (map setOf bundles)
-storeBundles bundles false old = zeros mostAgents
+abbrev pub storeShown : List (List ℕ) → Bool → List ℕ → List ℕ
+storeShown bundles true old = padded mostAgents 0 (map setOf bundles)
+storeShown bundles false old = zeros mostAgents
 
 -- what is promised of the number answered to a sheet, and of the places lent for `found` and `bundles`, that held the old content and then
 -- hold the new
@@ -32,7 +32,7 @@ pub record TableStored (sheet : Contents) (oldFound : ℕ) (oldBundles : List �
   pub may-show : MayShow sheet bundles
   pub answered : number ≡ numberOf (searching sheet)
   pub found-stored : newFound ≡ after storeFound (searching sheet) oldFound
-  pub bundles-stored : newBundles ≡ after (storeBundles bundles) (searching sheet) oldBundles
+  pub bundles-stored : newBundles ≡ after (storeShown bundles) (searching sheet) oldBundles
 
 -- what is promised of the number answered to a text, and of the lent buffer and the place lent for its length
 pub record TextStored (text old : List ℕ) (oldLength number : ℕ) (new : List ℕ) (newLength : ℕ) : Type 0 where

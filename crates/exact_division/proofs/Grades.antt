@@ -10,7 +10,7 @@ use Rattle.lists.proofs.ranges.Ranges.{in-range, nth-mem}
 use Rattle.lists.proofs.members.Tests.{all-cong}
 use Rattle.lists.proofs.sums.Totals.{map-cong}
 use Rattle.sheet.specs.Valuations.{itemValue, value}
-use Rattle.sheet.specs.Tables.{valuation, AgreeInUse}
+use Rattle.sheet.specs.Tables.{valuationOf, AgreeInUse}
 use Rattle.sheet.specs.Allocations.{Allocates}
 use Rattle.sheet.specs.Contents.{Contents, sheetOf, valuationsOf}
 use Rattle.sheet.proofs.valuing.Tables.{itemValue-profile, profile-agree}
@@ -25,9 +25,9 @@ use Rattle.exact_division.specs.Exact.{isExact}
 module _ (sheet : Contents) (bundles : List (List ℕ)) (allocates : Allocates (sheet .agents) (sheet .items) bundles) where
   -- an agent's bundle has the same value by the places in use
   bundle-value-profile : (agent : ℕ) → Mem agent (range 1 (sheet .agents))
-      → value (valuation (valuationsOf sheet) agent) (nth [] bundles agent) ≡ value (valuation (sheet .table) agent) (nth [] bundles agent)
+      → value (valuationOf (valuationsOf sheet) agent) (nth [] bundles agent) ≡ value (valuationOf (sheet .table) agent) (nth [] bundles agent)
   bundle-value-profile agent ma =
-      ap total (map-cong (itemValue (valuation (valuationsOf sheet) agent)) (itemValue (valuation (sheet .table) agent)) (nth [] bundles agent)
+      ap total (map-cong (itemValue (valuationOf (valuationsOf sheet) agent)) (itemValue (valuationOf (sheet .table) agent)) (nth [] bundles agent)
       (λ k mk.
       let b = allocates .no-other-item (nth [] bundles agent) (nth-mem [] bundles (sheet .agents) (allocates .bundle-each) ma) k mk in
       itemValue-profile (sheet .agents) (sheet .items) (sheet .table) ma k (in-range 1 (sheet .items) k (b .0) (omega arith))))

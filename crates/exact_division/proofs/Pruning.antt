@@ -17,7 +17,7 @@ use Rattle.lists.proofs.sums.Sums.{sumOf-zero, sumOf-add, sumOf-mono, sumOf-onc
 use Rattle.lists.proofs.sums.Totals.{sumOver-consIf}
 use Rattle.lists.proofs.sums.GreatestOf.{le-greatestOf}
 use Rattle.sheet.specs.Valuations.{itemValue, value}
-use Rattle.sheet.specs.Tables.{valuation}
+use Rattle.sheet.specs.Tables.{valuationOf}
 use Rattle.sheet.specs.Contents.{sheetOf}
 use Rattle.shares.specs.Shares.{shareOf}
 use Rattle.bundling.specs.Bundles.{bundle}
@@ -71,7 +71,7 @@ module _ (n : ℕ) (v : ℕ → ℕ → ℕ) where
 
 -- what an item is worth to an agent
 abbrev pub marksOf : List (List ℕ) → ℕ → ℕ → ℕ
-marksOf table agent k = itemValue (valuation table agent) k
+marksOf table agent k = itemValue (valuationOf table agent) k
 
 module _ (n m : ℕ) (table : List (List ℕ)) (shares : ℕ → ℕ) (is-share : (agent : ℕ) → 1 ≤ agent → agent ≤ n → shareOf (sheetOf n m table) agent ≡ shares agent) where
   pub impossible-none : possible n (marksOf table) (range 1 m) (sumOver (most n (marksOf table)) (range 1 m)) shares ≡ false → exactExists (sheetOf n m table) ≡ false
@@ -85,8 +85,8 @@ module _ (n m : ℕ) (table : List (List ℕ)) (shares : ℕ → ℕ) (is-share 
           given-possible n (marksOf table) (range 1 m) agents (sumOver (most n (marksOf table)) (range 1 m)) shares (omega arith) (places ∙ sym (length-range 1 m)) each
           (λ a lo hi.
           let ma = in-range 1 n a lo (omega arith) in
-          let reached = leb-true (shareOf (sheetOf n m table) a) (value (valuation table a) (nth [] (bundlesBy n m agents) a)) (all-mem _ exact ma) in
-          omega (arith, reached, is-share a lo hi, ap (value (valuation table a)) (nth-map-range (bundle (range 1 m) agents) [] n ma)))
+          let reached = leb-true (shareOf (sheetOf n m table) a) (value (valuationOf table a) (nth [] (bundlesBy n m agents) a)) (all-mem _ exact ma) in
+          omega (arith, reached, is-share a lo hi, ap (value (valuationOf table a)) (nth-map-range (bundle (range 1 m) agents) [] n ma)))
 
       step : (b : Bool) → exactExists (sheetOf n m table) ≡ b → exactExists (sheetOf n m table) ≡ false
       step false e = e

@@ -6,7 +6,7 @@ use Prim.Native.Nat.{ℕ}
 use lib.Dec.{leb}
 use Rattle.lists.specs.Lists.{range, nth, any, all, Rising}
 use Rattle.sheet.specs.Valuations.{value}
-use Rattle.sheet.specs.Tables.{valuation}
+use Rattle.sheet.specs.Tables.{valuationOf}
 use Rattle.sheet.specs.Allocations.{Allocates}
 use Rattle.sheet.specs.Contents.{Contents}
 use Rattle.maximin.specs.Partitions.{partitions}
@@ -20,7 +20,7 @@ bundlesBy n m agents = allBundles n m agents
 module _ (sheet : Contents) where
   -- whether a bundle (pile) is worth to the agent at least its share, both worked from the marks of the sheet
   abbrev pub hasShare : ℕ → List ℕ → Bool
-  hasShare agent bundle = leb (shareOf sheet agent) (value (valuation (sheet .table) agent) bundle)
+  hasShare agent bundle = leb (shareOf sheet agent) (value (valuationOf (sheet .table) agent) bundle)
 
   -- "every yard has its whole maximin share"
   unfoldable pub isExact : List (List ℕ) → Bool

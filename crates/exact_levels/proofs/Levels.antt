@@ -20,7 +20,7 @@ use Rattle.sheet.specs.Limits.{mostItems}
 use Rattle.sheet.specs.Sets.{itemsOf}
 use Rattle.sheet.specs.Valuations.{value}
 use Rattle.exact_levels.specs.Parts.{isPart}
-use Rattle.exact_levels.specs.Serving.{Serves, RankedAt, Ranked}
+use Rattle.exact_levels.specs.ServedSets.{Serves, RankedAt, Ranked}
 use Rattle.exact_levels.specs.Levels.{mayLeavePart, canServe, levelOf, levelsOf}
 use Rattle.exact_levels.proofs.sets.Named.{part-isPart, isPart-part}
 use Rattle.exact_levels.proofs.kept.Served.{ranked-none, ranked-tried}

@@ -13,7 +13,7 @@ use Rattle.exact_levels.specs.Parts.{isPart}
 -- a row and a share for each agent; agent i + 1 stands at place i
 module _ (table : List (List ℕ)) (shares : List ℕ) where
   -- whether agent i + 1 may leave a part of the set to those before, by the sets from which these can be served: the rest is worth its share
-  abbrev pub mayLeavePart : (ℕ → Bool) → ℕ → ℕ → ℕ → Bool
+  abbrev pub mayLeavePart : (before : ℕ → Bool) (i set part : ℕ) → Bool
   mayLeavePart before i set part = isPart part set && (before part && leb (getD shares i 0) (value (getD table i []) (itemsOf (set - part))))
 
   -- whether the first i agents can be served from the set: each gets items worth its share, and no item goes to two

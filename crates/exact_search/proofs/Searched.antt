@@ -24,7 +24,7 @@ use Rattle.exact_division.proofs.Answers.{searching-within-limits}
 use Rattle.exact_search.specs.Outcome.{outcome, Searched}
 use Rattle.exact_search.specs.declared.Answer.the-variants.{None, Found}
 use Rattle.exact_search.specs.declared.Outcome.{Outcome}
-use Rattle.exact_levels.specs.Serving.{Serves, Ranked}
+use Rattle.exact_levels.specs.ServedSets.{Serves, Ranked}
 use Rattle.exact_levels.specs.Levels.{levelsOf}
 use Rattle.exact_levels.proofs.Levels.{levels-ranked}
 use Rattle.exact_search.specs.internal.Handing.{CanHand, HandedOut}

@@ -10,16 +10,16 @@ use Rattle.sheet.specs.Limits.{mostAgents}
 use Rattle.sheet.specs.Amounts.{eachAtMost}
 use Rattle.sheet.proofs.amounts.Comparing.{eachAtMost-all}
 use Rattle.grades.specs.Grade.{valueTo, envyFree, proportional, maximinFair}
-use Rattle.grade_amounts.specs.Compared.{ownValue, greatestValue, multipleOfOwn, totalValue, compared}
+use Rattle.grade_amounts.specs.Compared.{ownValue, greatestBundleValue, multipleOfOwn, totalValue, compared}
 
 module _ (n : ℕ) (valuations bundles : List (List ℕ)) where
   own-read : (i : ℕ) → Mem i (range 1 n) → nth 0 (compared n valuations bundles .own) i ≡ ownValue n valuations bundles i
   unfolding compared
   own-read i m = nth-padded-range mostAgents 0 0 (ownValue n valuations bundles) n m
 
-  greatest-read : (i : ℕ) → Mem i (range 1 n) → nth 0 (compared n valuations bundles .greatest) i ≡ greatestValue n valuations bundles i
+  greatest-read : (i : ℕ) → Mem i (range 1 n) → nth 0 (compared n valuations bundles .greatest) i ≡ greatestBundleValue n valuations bundles i
   unfolding compared
-  greatest-read i m = nth-padded-range mostAgents 0 0 (greatestValue n valuations bundles) n m
+  greatest-read i m = nth-padded-range mostAgents 0 0 (greatestBundleValue n valuations bundles) n m
 
   multiples-read : (i : ℕ) → Mem i (range 1 n) → nth 0 (compared n valuations bundles .multiples) i ≡ multipleOfOwn n valuations bundles i
   unfolding compared
@@ -34,7 +34,7 @@ module _ (n : ℕ) (valuations bundles : List (List ℕ)) where
   unfolding envyFree
   envyFree-compared =
       let c = compared n valuations bundles in
-      sym (eachAtMost-all (c .greatest) (c .own) (greatestValue n valuations bundles) (ownValue n valuations bundles) n greatest-read own-read
+      sym (eachAtMost-all (c .greatest) (c .own) (greatestBundleValue n valuations bundles) (ownValue n valuations bundles) n greatest-read own-read
       ∙ all-cong _ _ (range 1 n) (λ i m. leb-greatestOf (valueTo valuations bundles i) n (ownValue n valuations bundles i)))
 
   -- even: its total is at most the number of agents times that

@@ -4,7 +4,7 @@ use Prim.Native.Nat.{ℕ, _*_}
 use Rattle.lists.specs.Lists.{range, padded}
 use Rattle.lists.specs.Sums.{total, greatestOf}
 use Rattle.sheet.specs.Limits.{mostAgents}
-use Rattle.sheet.specs.Tables.{valuation}
+use Rattle.sheet.specs.Tables.{valuationOf}
 use Rattle.grades.specs.Grade.{valueTo}
 use Rattle.grade_amounts.specs.declared.Compared.{Compared}
 
@@ -14,8 +14,8 @@ module _ (n : ℕ) (valuations bundles : List (List ℕ)) where
   ownValue i = valueTo valuations bundles i i
 
   -- the greatest value that agent i sees in any bundle
-  abbrev pub greatestValue : ℕ → ℕ
-  greatestValue i = greatestOf (valueTo valuations bundles i) n
+  abbrev pub greatestBundleValue : ℕ → ℕ
+  greatestBundleValue i = greatestOf (valueTo valuations bundles i) n
 
   -- n times the value of agent i's own bundle
   abbrev pub multipleOfOwn : ℕ → ℕ
@@ -23,14 +23,14 @@ module _ (n : ℕ) (valuations bundles : List (List ℕ)) where
 
   -- the value of all items to agent i
   abbrev pub totalValue : ℕ → ℕ
-  totalValue i = total (valuation valuations i)
+  totalValue i = total (valuationOf valuations i)
 
   -- a place for each agent
   unfoldable pub compared : Compared
   compared =
       record {
         own = padded mostAgents 0 (map ownValue (range 1 n));
-        greatest = padded mostAgents 0 (map greatestValue (range 1 n));
+        greatest = padded mostAgents 0 (map greatestBundleValue (range 1 n));
         multiples = padded mostAgents 0 (map multipleOfOwn (range 1 n));
         totals = padded mostAgents 0 (map totalValue (range 1 n));
       }

@@ -12,22 +12,22 @@ use Rattle.margins.specs.Margins.{noneNegative}
 use Rattle.grades.specs.Grade.{envyFree, proportional, maximinFair, grade}
 
 -- the number of the first of four tests that passes, or 5
-abbrev pub first : Bool → Bool → Bool → Bool → ℕ
-first a b c d = cond a 1 (cond b 2 (cond c 3 (cond d 4 5)))
+abbrev pub firstPassed : Bool → Bool → Bool → Bool → ℕ
+firstPassed a b c d = cond a 1 (cond b 2 (cond c 3 (cond d 4 5)))
 
-pub first-bounds : (a b c d : Bool) → (1 ≤ first a b c d) × (first a b c d ≤ 5)
-first-bounds true b c d = omega arith
-first-bounds false true c d = omega arith
-first-bounds false false true d = omega arith
-first-bounds false false false true = omega arith
-first-bounds false false false false = omega arith
+pub firstPassed-bounds : (a b c d : Bool) → (1 ≤ firstPassed a b c d) × (firstPassed a b c d ≤ 5)
+firstPassed-bounds true b c d = omega arith
+firstPassed-bounds false true c d = omega arith
+firstPassed-bounds false false true d = omega arith
+firstPassed-bounds false false false true = omega arith
+firstPassed-bounds false false false false = omega arith
 
 -- a grade is 1, 2, 3, 4 or 5
 pub grade-bounds : (n : ℕ) (rows : List (List ℕ)) (shares : List ℕ) (margins : List ℤ) (bundles : List (List ℕ))
     → (1 ≤ grade n rows shares margins bundles) × (grade n rows shares margins bundles ≤ 5)
 unfolding grade
 grade-bounds n rows shares margins bundles =
-    first-bounds (envyFree n rows bundles) (proportional n rows bundles) (maximinFair n rows shares bundles) (noneNegative n margins)
+    firstPassed-bounds (envyFree n rows bundles) (proportional n rows bundles) (maximinFair n rows shares bundles) (noneNegative n margins)
 
 -- the bundles, the shares and the margins may be written otherwise, if each agent's are the same
 module _ (n : ℕ) (rows : List (List ℕ)) (shares shares′ : List ℕ) (margins margins′ : List ℤ) (bundles bundles′ : List (List ℕ))

@@ -15,9 +15,9 @@ use Rattle.lists.proofs.members.Counting.{counted-any, mem-all, all-mem}
 use Rattle.lists.proofs.sums.Totals.{sumOver-le}
 use Rattle.lists.proofs.sums.Covering.{covering-le}
 use Rattle.sheet.specs.Valuations.{itemValue}
-use Rattle.sheet.specs.Tables.{valuation, allValues, profile}
+use Rattle.sheet.specs.Tables.{valuationOf, allValues, profile}
 use Rattle.sheet.specs.Allocations.{Allocates}
-use Rattle.sheet.proofs.valuing.Tables.{valuation-profile}
+use Rattle.sheet.proofs.valuing.Tables.{valuationOf-profile}
 use Rattle.maximin.proofs.Laws.{shares-le-total}
 use Rattle.sheet.specs.Contents.{sheetOf}
 use Rattle.shares.specs.Shares.{sharesOf}
@@ -38,13 +38,13 @@ module _ (n m : ℕ) (table bundles : List (List ℕ)) where
 
   module _ (allocates : Allocates n m bundles) where
     -- all items are worth no more than the bundles together, since each item is in one
-    total-le-bundles : (i : ℕ) → Mem i (range 1 n) → total (valuation rows i) ≤ sumOver (seen i) (range 1 n)
+    total-le-bundles : (i : ℕ) → Mem i (range 1 n) → total (valuationOf rows i) ≤ sumOver (seen i) (range 1 n)
     total-le-bundles i mi =
-        let w : ℕ → ℕ = itemValue (valuation rows i) in
-        let places : length (valuation rows i) ≡ m = ap length (valuation-profile n m table mi) ∙ length-map (range 1 m) (itemValue (valuation table i)) ∙ length-range 1 m in
+        let w : ℕ → ℕ = itemValue (valuationOf rows i) in
+        let places : length (valuationOf rows i) ≡ m = ap length (valuationOf-profile n m table mi) ∙ length-map (range 1 m) (itemValue (valuationOf table i)) ∙ length-range 1 m in
         omega (
           arith,
-          ap total (map-nth-range 0 (valuation rows i) m places),
+          ap total (map-nth-range 0 (valuationOf rows i) m places),
           covering-le w m bundles (λ k lo hi. counted-any (elem k) bundles (omega (arith, allocates .item-in-one-bundle k lo hi))),
           ap (λ l. total (map (sumOver w) l)) (map-nth-range [] bundles n (allocates .bundle-each)),
           ap total (map-map (sumOver w) (nth [] bundles) (range 1 n)),
@@ -58,7 +58,7 @@ module _ (n m : ℕ) (table bundles : List (List ℕ)) where
         most : (i : ℕ) → Mem i (range 1 n) → (j : ℕ) → Mem j (range 1 n) → 1 * seen i j ≤ seen i i
         most i mi j mj = omega (arith, leb-true (seen i j) (seen i i) (all-mem _ (all-mem _ free mi) mj))
 
-        even : (i : ℕ) → Mem i (range 1 n) → total (valuation rows i) ≤ n * seen i i
+        even : (i : ℕ) → Mem i (range 1 n) → total (valuationOf rows i) ≤ n * seen i i
         even i mi = omega (arith, total-le-bundles i mi, sumOver-le (seen i) 1 (seen i i) (range 1 n) (most i mi), ap (λ k. k * seen i i) (length-range 1 n))
 
   -- n times the share is at most the total, and so at most n times the value of the bundle; whatever the bundles are
@@ -72,9 +72,9 @@ module _ (n m : ℕ) (table bundles : List (List ℕ)) where
           let multiples : n * nth 0 (sharesOf (sheetOf n m table)) i ≤ n * seen i i = omega (
             arith,
             ap (λ x. n * x) (nth-shares n m table mi),
-            shares-le-total n (allValues m (valuation table i)) some,
-            ap total (valuation-profile n m table mi),
-            leb-true (total (valuation rows i)) (n * seen i i) (all-mem _ even mi),
+            shares-le-total n (allValues m (valuationOf table i)) some,
+            ap total (valuationOf-profile n m table mi),
+            leb-true (total (valuationOf rows i)) (n * seen i i) (all-mem _ even mi),
           ) in
           le-of-mul-le-mul-left multiples some
 

@@ -10,15 +10,15 @@ use Rattle.lists.proofs.sums.Totals.{map-cong}
 use Rattle.sheet.specs.Limits.{mostAgents, mostItems, greatestSum}
 use Rattle.sheet.specs.Sets.{itemsOf}
 use Rattle.sheet.specs.Valuations.{value}
-use Rattle.sheet.specs.Tables.{valuation}
+use Rattle.sheet.specs.Tables.{valuationOf}
 use Rattle.sheet.specs.Contents.{Contents, valuationsOf}
 use Rattle.shares.specs.Shares.{sharesOf}
 use Rattle.shares.specs.Known.{SharesIn}
 use Rattle.shares.proofs.Outcomes.{nth-shares-known}
 use Rattle.terms.specs.Allowed.{SmallTerms}
 use Rattle.terms.specs.declared.Terms.{Terms}
-use Rattle.margins.specs.Margins.{margin, marginsOf, termsWithin}
-use Rattle.margins.proofs.Stored.{termsWithin-small}
+use Rattle.margins.specs.Margins.{margin, marginsOf, limitedTerms}
+use Rattle.margins.proofs.Stored.{limitedTerms-small}
 use Rattle.grades.specs.Grade.{ownValues, grade}
 use Rattle.grades.specs.Assessment.{Assessment, assessmentIn}
 use Rattle.grades.specs.Scale.{marginsByTerms, gradeByTerms, assessmentByTerms}
@@ -41,15 +41,15 @@ module _ {sheet : Contents} {shares : List ℕ} (known : SharesIn sheet shares) 
       List·getD-map (λ share. min share greatestSum) shares (i - 1) 0 ∙ small-share ∙ nth-shares-known known mi
 
   same-worths : ownValues (sheet .agents) rows (map itemsOf sets) ≡ ownValues (sheet .agents) rows bundles
-  same-worths = map-cong _ _ (range 1 (sheet .agents)) (λ i mi. ap (value (valuation rows i)) (same i mi))
+  same-worths = map-cong _ _ (range 1 (sheet .agents)) (λ i mi. ap (value (valuationOf rows i)) (same i mi))
 
   -- the margins by terms and shares that are cut
   abbrev cutMargins : List ℤ
-  cutMargins = marginsOf (sheet .agents) (termsWithin terms) (ownValues (sheet .agents) rows (map itemsOf sets)) cutShares
+  cutMargins = marginsOf (sheet .agents) (limitedTerms terms) (ownValues (sheet .agents) rows (map itemsOf sets)) cutShares
 
   same-margins : cutMargins ≡ marginsByTerms sheet terms bundles
   same-margins =
-      ap₂ (λ t worths. marginsOf (sheet .agents) t worths cutShares) (termsWithin-small terms small) same-worths
+      ap₂ (λ t worths. marginsOf (sheet .agents) t worths cutShares) (limitedTerms-small terms small) same-worths
       ∙ map-cong _ _ (range 1 (sheet .agents)) (λ i mi. ap (margin terms (nth 0 (ownValues (sheet .agents) rows bundles) i)) (share-not-cut mi))
 
   same-grade : grade (sheet .agents) rows shares cutMargins (map itemsOf sets) ≡ gradeByTerms sheet terms bundles

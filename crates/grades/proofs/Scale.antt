@@ -22,11 +22,11 @@ use Rattle.terms.proofs.Allowed.{at-most-whole, termsFor-at-most-standard}
 use Rattle.margins.specs.Margins.{noneNegative}
 use Rattle.grades.specs.Grade.{envyFree, proportional, maximinFair, grade}
 use Rattle.grades.specs.Scale.{marginsByTerms, passesByTerms, gradeByTerms, passes, gradeByTable}
-use Rattle.grades.proofs.Grades.{first, first-bounds}
+use Rattle.grades.proofs.Grades.{firstPassed, firstPassed-bounds}
 use Rattle.grades.proofs.Implied.{envyFree-proportional, proportional-maximinFair, maximinFair-noneNegative}
 
 -- where each test implies the next, they pass from the first that passes on
-from-first : (a b c d : Bool) → (a ≡ true → b ≡ true) → (b ≡ true → c ≡ true) → (c ≡ true → d ≡ true) → a ∷ b ∷ c ∷ d ∷ [] ≡ map (leb (first a b c d)) (range 1 4)
+from-first : (a b c d : Bool) → (a ≡ true → b ≡ true) → (b ≡ true → c ≡ true) → (c ≡ true → d ≡ true) → a ∷ b ∷ c ∷ d ∷ [] ≡ map (leb (firstPassed a b c d)) (range 1 4)
 from-first true b c d ab bc cd = rw (cd (bc (ab refl)), bc (ab refl), ab refl)
 from-first false true c d ab bc cd = rw (cd (bc refl), bc refl)
 from-first false false true d ab bc cd = rw (cd refl)
@@ -34,12 +34,12 @@ from-first false false false true ab bc cd = refl
 from-first false false false false ab bc cd = refl
 
 nth-from-first : (a b c d : Bool) → (a ≡ true → b ≡ true) → (b ≡ true → c ≡ true) → (c ≡ true → d ≡ true)
-    → (g : ℕ) → 1 ≤ g → nth true (a ∷ b ∷ c ∷ d ∷ []) g ≡ leb (first a b c d) g
+    → (g : ℕ) → 1 ≤ g → nth true (a ∷ b ∷ c ∷ d ∷ []) g ≡ leb (firstPassed a b c d) g
 nth-from-first a b c d ab bc cd g some =
     ap (λ l. nth true l g) (from-first a b c d ab bc cd)
     ∙ ⊎-elim
-    (λ lt. nth-map-range (leb (first a b c d)) true 4 (in-range 1 4 g some (omega arith)))
-    (λ ge. List·getD-eq-default (map (leb (first a b c d)) (range 1 4)) true {n = g - 1} (omega arith) ∙ sym (le-leb (first a b c d) g (omega (arith, first-bounds a b c d))))
+    (λ lt. nth-map-range (leb (firstPassed a b c d)) true 4 (in-range 1 4 g some (omega arith)))
+    (λ ge. List·getD-eq-default (map (leb (firstPassed a b c d)) (range 1 4)) true {n = g - 1} (omega arith) ∙ sym (le-leb (firstPassed a b c d) g (omega (arith, firstPassed-bounds a b c d))))
     (lt-or-ge g 5)
 
 -- by any terms that promise no more than document 01

@@ -7,7 +7,7 @@ use Rattle.sheet.specs.Sets.{itemsOf}
 use Rattle.sheet.specs.Tables.{profile}
 use Rattle.sheet.specs.Contents.{Contents}
 use Rattle.terms.specs.declared.Terms.{Terms}
-use Rattle.margins.specs.Margins.{marginsOf, termsWithin}
+use Rattle.margins.specs.Margins.{marginsOf, limitedTerms}
 use Rattle.grades.specs.Grade.{ownValues, grade}
 
 -- the worth of each agent's bundle (pile), its margin, and the grade
@@ -32,4 +32,4 @@ assessmentIn sheet terms shares sets =
     let n = min (sheet .agents) mostAgents in
     let valuations = profile n (min (sheet .items) mostItems) (sheet .table) in
     let bundles = map itemsOf sets in
-    assessmentWith n valuations shares bundles (marginsOf n (termsWithin terms) (ownValues n valuations bundles) (map (λ share. min share greatestSum) shares))
+    assessmentWith n valuations shares bundles (marginsOf n (limitedTerms terms) (ownValues n valuations bundles) (map (λ share. min share greatestSum) shares))

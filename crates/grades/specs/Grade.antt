@@ -8,12 +8,12 @@ use lib.IntN.{ℤ}
 use Rattle.lists.specs.Lists.{range, nth, all}
 use Rattle.lists.specs.Sums.{total}
 use Rattle.sheet.specs.Valuations.{value}
-use Rattle.sheet.specs.Tables.{valuation}
+use Rattle.sheet.specs.Tables.{valuationOf}
 use Rattle.margins.specs.Margins.{noneNegative}
 
 -- what agent i's valuation says of agent j's bundle
 abbrev pub valueTo : List (List ℕ) → List (List ℕ) → ℕ → ℕ → ℕ
-valueTo valuations bundles i j = value (valuation valuations i) (nth [] bundles j)
+valueTo valuations bundles i j = value (valuationOf valuations i) (nth [] bundles j)
 
 module _ (n : ℕ) (valuations bundles : List (List ℕ)) where
   -- the worth of each agent's own bundle (pile), by its valuation
@@ -26,7 +26,7 @@ module _ (n : ℕ) (valuations bundles : List (List ℕ)) where
 
   -- "a division is even when N times the worth of each pile is at least its yard's total"
   unfoldable pub proportional : Bool
-  proportional = all (λ i. leb (total (valuation valuations i)) (n * valueTo valuations bundles i i)) (range 1 n)
+  proportional = all (λ i. leb (total (valuationOf valuations i)) (n * valueTo valuations bundles i i)) (range 1 n)
 
 -- "each pile reaches its yard's whole maximin share"
 unfoldable pub maximinFair : ℕ → List (List ℕ) → List ℕ → List (List ℕ) → Bool

@@ -12,7 +12,7 @@ use Rattle.lists.proofs.sums.Totals.{map-cong}
 use Rattle.sheet.specs.Limits.{mostAgents, greatestSum}
 use Rattle.sheet.specs.Amounts.{SmallAmounts}
 use Rattle.terms.specs.declared.Terms.{Terms}
-use Rattle.margins.specs.Margins.{margin, marginsOf, termsWithin, marginWithin}
+use Rattle.margins.specs.Margins.{margin, marginsOf, limitedTerms, limitedMargin}
 use Rattle.grades.specs.Grade.{ownValues, grade}
 use Rattle.grades.proofs.Grades.{grade-cong}
 use Rattle.grade_amounts.specs.Compared.{ownValue, compared}
@@ -27,11 +27,11 @@ module _ (n : ℕ) (valuations bundles : List (List ℕ)) (shares : List ℕ) wh
 
   -- no worth is so great that it would be cut
   pub margins-by-amounts : (terms : Terms) → SmallAmounts worths
-      → map (λ i. marginWithin terms (nth 0 worths i) (nth 0 shares i)) (range 1 n)
-      ≡ marginsOf n (termsWithin terms) (ownValues n valuations bundles) (map (λ share. min share greatestSum) shares)
+      → map (λ i. limitedMargin terms (nth 0 worths i) (nth 0 shares i)) (range 1 n)
+      ≡ marginsOf n (limitedTerms terms) (ownValues n valuations bundles) (map (λ share. min share greatestSum) shares)
   margins-by-amounts terms small =
       map-cong _ _ (range 1 n)
-      (λ i mi. ap₂ (margin (termsWithin terms)) (worth-not-cut i mi) (sym (List·getD-map (λ share. min share greatestSum) shares (i - 1) 0)))
+      (λ i mi. ap₂ (margin (limitedTerms terms)) (worth-not-cut i mi) (sym (List·getD-map (λ share. min share greatestSum) shares (i - 1) 0)))
     where
       worth-not-cut : (i : ℕ) → Mem i (range 1 n) → min (nth 0 worths i) greatestSum ≡ nth 0 (ownValues n valuations bundles) i
       worth-not-cut i mi =

@@ -8,7 +8,7 @@ use Rattle.sheet.specs.Limits.{mostAgents, mostItems}
 
 -- those of k more items into n bundles, where so many are in use: the next item goes to one of them, or opens the next new one.
 -- proofs/Counted.antt shows that it counts the list
-abbrev pub growthCount : ℕ → ℕ → ℕ → ℕ
+abbrev pub growthCount : (n used k : ℕ) → ℕ
 growthCount n used zero = 1
 growthCount n used (suc k) = used * growthCount n used k + cond (ltb used n) (growthCount n (suc used) k) 0
 

@@ -6,7 +6,7 @@ use Rattle.lists.specs.Lists.{range}
 use Rattle.lists.specs.Dictionary.{branches}
 
 -- "each later one in a pile in use or in the next new one, up to n piles": those of k more items, where the bundles 1 .. used are in use
-abbrev pub growthFrom : ℕ → ℕ → ℕ → List (List ℕ)
+abbrev pub growthFrom : (n used k : ℕ) → List (List ℕ)
 growthFrom n used zero = [] ∷ []
 growthFrom n used (suc k) = branches (λ c. growthFrom n (max used c) k) (range 1 (min (suc used) n))
 

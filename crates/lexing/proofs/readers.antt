@@ -9,5 +9,5 @@ pub mod Places
 pub mod Answers
 pub mod Stored
 pub mod AlsoReads
-pub mod Written
+pub mod ReadBack
 pub mod Bounds

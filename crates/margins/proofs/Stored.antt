@@ -5,10 +5,10 @@ use native.Mathlib.Omega.{arith}
 use Rattle.sheet.specs.Limits.{greatestTerm}
 use Rattle.terms.specs.Allowed.{SmallTerms}
 use Rattle.terms.specs.declared.Terms.{Terms}
-use Rattle.margins.specs.Margins.{termsWithin}
+use Rattle.margins.specs.Margins.{limitedTerms}
 
-pub termsWithin-small : (terms : Terms) → SmallTerms terms → termsWithin terms ≡ terms
-termsWithin-small terms small =
+pub limitedTerms-small : (terms : Terms) → SmallTerms terms → limitedTerms terms ≡ terms
+limitedTerms-small terms small =
     let top : min (terms .top) greatestTerm ≡ terms .top = omega (arith, small .small-top) in
     let bottom : min (terms .bottom) greatestTerm ≡ terms .bottom = omega (arith, small .small-bottom) in
     rw (top, bottom)

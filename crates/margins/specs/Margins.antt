@@ -21,16 +21,16 @@ abbrev pub noneNegative : ℕ → List ℤ → Bool
 noneNegative n margins = all (λ i. nonNeg (nth (pos 0) margins i)) (range 1 n)
 
 -- the terms with numbers that are cut to the greatest
-abbrev pub termsWithin : Terms → Terms
-termsWithin terms = record { top = min (terms .top) greatestTerm; bottom = min (terms .bottom) greatestTerm }
+abbrev pub limitedTerms : Terms → Terms
+limitedTerms terms = record { top = min (terms .top) greatestTerm; bottom = min (terms .bottom) greatestTerm }
 
 -- the margin of amounts that are cut to the greatest sum, by terms that are cut too
-abbrev pub marginWithin : Terms → ℕ → ℕ → ℤ
-marginWithin terms worth share = margin (termsWithin terms) (min worth greatestSum) (min share greatestSum)
+abbrev pub limitedMargin : Terms → ℕ → ℕ → ℤ
+limitedMargin terms worth share = margin (limitedTerms terms) (min worth greatestSum) (min share greatestSum)
 
 -- the margins in six places, 0 after the last agent
 abbrev pub marginsStored : ℕ → Terms → List ℕ → List ℕ → List ℤ
-marginsStored agents terms worths shares = padded mostAgents (pos 0) (map (λ i. marginWithin terms (nth 0 worths i) (nth 0 shares i)) (range 1 (min agents mostAgents)))
+marginsStored agents terms worths shares = padded mostAgents (pos 0) (map (λ i. limitedMargin terms (nth 0 worths i) (nth 0 shares i)) (range 1 (min agents mostAgents)))
 
 -- no margin is greater without its sign: the greatest bottom times the greatest sum
 abbrev pub greatestMargin : ℕ

@@ -2,7 +2,7 @@
 ghost use mathlib.Core.Path.{_≡_};
 ghost use Prim.Native.Nat.{min};
 ghost use Rattle.sheet.specs.Limits.{mostAgents};
-ghost use Rattle.margins.specs.Margins.{marginWithin, marginsStored, noneNegative};
+ghost use Rattle.margins.specs.Margins.{limitedMargin, marginsStored, noneNegative};
 use sheet::Sheet;
 use sheet::amounts::Amounts;
 use sheet::lesser;
@@ -20,7 +20,7 @@ fn limited(amount: u64, most: u64) -> u64
 
 // The margin of an agent with this worth and share, by the terms; all are cut to their limits.
 pub fn margin_of(terms: Terms, worth: u64, share: u64) -> i64
-    ensures { λ r. ⌜ r ≡ marginWithin terms worth share ⌝ }
+    ensures { λ r. ⌜ r ≡ limitedMargin terms worth share ⌝ }
 {
     let bottom = limited(terms.bottom, Sheet::GREATEST_TERM);
     let held = bottom * limited(worth, Sheet::GREATEST_SUM);

@@ -5,7 +5,7 @@ pub mod Matching
 pub mod Congruence
 pub mod Chosen
 pub mod Hall
-pub mod Serving
+pub mod AllServed
 pub mod Ties
 pub mod Suited
 pub mod Tight

@@ -12,7 +12,7 @@ use Rattle.lists.proofs.members.Counting.{sublist-mem, reject-mem, reject-subli
 use Rattle.lists.proofs.members.Congruence.{filter-cong}
 use Rattle.lists.proofs.members.Distinct.{eqb-comm}
 use Rattle.matching.specs.Matching.{without, servedAgents, wanted, freeBundles, matching, bundleNumbers, waitingOf, servedOf, freeOf, chosenOf}
-use Rattle.matching.proofs.Serving.{waiting-sublist}
+use Rattle.matching.proofs.AllServed.{waiting-sublist}
 use Rattle.matching.proofs.Chosen.{chosen-distinct, chosen-free, chosen-few}
 use Rattle.matching.proofs.Congruence.{Agree, waitingSet-cong, freeBundles-cong, matching-cong}
 

@@ -63,7 +63,7 @@ fn is_number(w: &[u8], most: usize) -> bool
 }
 
 // The number that digits stand for.
-fn decimal(w: &[u8]) -> u64
+fn digits_value(w: &[u8]) -> u64
     requires { ⌜ length (now w) ≤ longestNumber ⌝ }
     requires { ⌜ allDigits (now w) ≡ true ⌝ }
     ensures { λ r. ⌜ r ≡ digitsAfter 0 (now (w .entry)) ⌝ }
@@ -84,5 +84,5 @@ pub fn read_digits(w: &[u8], most: usize) -> Numeral
     if !is_number(w, most) {
         return Numeral::Missed;
     }
-    Numeral::Value(decimal(w))
+    Numeral::Value(digits_value(w))
 }

@@ -11,7 +11,7 @@ use Rattle.sheet.specs.Limits.{CountsWithin}
 use Rattle.sheet.specs.Answers.{accepted}
 use Rattle.sheet.specs.Contents.{Contents}
 use Rattle.sheet.specs.Valuations.{itemValue}
-use Rattle.sheet.specs.Tables.{valuation, allValues}
+use Rattle.sheet.specs.Tables.{valuationOf, allValues}
 use Rattle.sheet.specs.Allocations.{Allocates}
 use Rattle.sheet.proofs.valuing.Tables.{value-allValues}
 use Rattle.maximin.specs.Share.{maximinPartition}
@@ -46,7 +46,7 @@ module _ (sheet : Contents) where
 
   -- the values that agent i puts on the items
   abbrev valuesTo : ℕ → List ℕ
-  valuesTo i = allValues m (valuation table i)
+  valuesTo i = allValues m (valuationOf table i)
 
   -- the box's division of the sheet
   module _ (allowance : ℕ) (d : Division) (divided : answer sheet allowance ≡ accepted d) where
@@ -97,16 +97,16 @@ module _ (sheet : Contents) where
       cut-allocates : Allocates n m (lineOf stated i .cut)
       cut-allocates =
           let (each, places) = maximinPartition-within n (valuesTo i) (within .some) in
-          rw cut-stated (allBundles-allocate n m (maximinPartition n (valuesTo i)) each (places ∙ length-map (range 1 m) (itemValue (valuation table i)) ∙ length-range 1 m))
+          rw cut-stated (allBundles-allocate n m (maximinPartition n (valuesTo i)) each (places ∙ length-map (range 1 m) (itemValue (valuationOf table i)) ∙ length-range 1 m))
 
       cut-least : leastOfCut sheet i (lineOf stated i .cut) ≡ shareOf sheet i
       cut-least =
           ap (leastOfCut sheet i) cut-stated
-          ∙ leastOf-allBundles m (valuation table i) n (maximinPartition n (valuesTo i))
+          ∙ leastOf-allBundles m (valuationOf table i) n (maximinPartition n (valuesTo i))
           ∙ leastBundle-maximinPartition n (valuesTo i) (within .some)
 
       worth-stated : lineOf stated i .worth ≡ worthTo sheet i (lineOf stated i .bundle)
-      worth-stated = rw (line-stated in-use) (worth-by-own-marks sheet in-use allowance d divided ∙ sym (value-allValues m (valuation table i) (bundle-sublist in-use)))
+      worth-stated = rw (line-stated in-use) (worth-by-own-marks sheet in-use allowance d divided ∙ sym (value-allValues m (valuationOf table i) (bundle-sublist in-use)))
 
       share-stated : lineOf stated i .share ≡ shareOf sheet i
       share-stated = ap (λ l. l .share) (line-stated in-use) ∙ share-own in-use

@@ -8,16 +8,16 @@ use Rattle.bundling.specs.Bundles.{allBundles}
 use Rattle.shares.specs.declared.Cut.{Cut}
 use Rattle.division.specs.declared.Outcome.{Outcome}
 use Rattle.printed_lines.specs.BeforeZero.{beforeZero}
-use Rattle.printed_lines.specs.PrintedLines.{yardLine, cuttersLine, allLines}
+use Rattle.printed_lines.specs.PrintedLines.{printedYard, cuttersLine, allLines}
 
 -- what stands beyond the last place of an array of cuts
 abbrev pub noCut : Cut
 noCut = record { partition = [] }
 
 -- the line of agent i
-abbrev pub outcomeLine : ℕ → ℕ → List ℕ → List ℕ → List ℕ → List Cut → ℕ → List ℕ
+abbrev pub outcomeLine : (agents items : ℕ) (bundles worths shares : List ℕ) (cuts : List Cut) (i : ℕ) → List ℕ
 outcomeLine agents items bundles worths shares cuts i =
-    yardLine i (itemsOf (nth 0 bundles i)) (nth 0 worths i) (nth 0 shares i) (allBundles agents items (nth noCut cuts i .partition))
+    printedYard i (itemsOf (nth 0 bundles i)) (nth 0 worths i) (nth 0 shares i) (allBundles agents items (nth noCut cuts i .partition))
 
 -- the whole text
 unfoldable pub outcomeText : ℕ → ℕ → Outcome → List ℕ

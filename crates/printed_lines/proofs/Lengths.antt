@@ -15,7 +15,7 @@ use Rattle.text.proofs.Decimal.{decimal-length}
 use Rattle.text.proofs.Spaced.{spaced, length-spacedNumbers, sumOver-spaced}
 use Rattle.writing.proofs.Lengths.{length-group}
 use Rattle.sheet.specs.Limits.{mostItems, sumDigits}
-use Rattle.printed_lines.specs.PrintedLines.{headLine, pileGroup, amounts, cutPile, cutGroup, yardLine, allLines}
+use Rattle.printed_lines.specs.PrintedLines.{headLine, pileGroup, worthAndShare, cutPile, cutGroup, printedYard, allLines}
 
 length-headLine : (agents items grade : ℕ) → agents < 10 → items < 100 → grade < 10 → length (headLine agents items grade) ≤ 43
 unfolding headLine
@@ -23,9 +23,9 @@ length-headLine agents items grade few few-items small =
     simp length-append
     (omega (arith, decimal-length agents 1 (omega arith) few, decimal-length items 2 (omega arith) few-items, decimal-length grade 1 (omega arith) small))
 
-length-amounts : (worth share : ℕ) → worth < 10 ^ sumDigits → share < 10 ^ sumDigits → length (amounts worth share) ≤ 18 + 2 * sumDigits
-unfolding amounts
-length-amounts worth share small small-share =
+length-worthAndShare : (worth share : ℕ) → worth < 10 ^ sumDigits → share < 10 ^ sumDigits → length (worthAndShare worth share) ≤ 18 + 2 * sumDigits
+unfolding worthAndShare
+length-worthAndShare worth share small small-share =
     simp length-append (omega (arith, decimal-length worth sumDigits (omega arith) small, decimal-length share sumDigits (omega arith) small-share))
 
 -- a cut has a space and two brackets for each pile, and a space at most and the digits for each item
@@ -47,11 +47,11 @@ module _ (m : ℕ) (few-items : m ≤ mostItems) {pile : List ℕ} (s : Sublist 
   unfolding pileGroup
   length-pileGroup = simp length-append (omega (arith, length-spacedNumbers pile, sumOver-spaced-items))
 
-  pub length-yardLine : (agent worth share : ℕ) (cut : List (List ℕ)) → agent < 10 → worth < 10 ^ sumDigits → share < 10 ^ sumDigits
-      → length (yardLine agent pile worth share cut) ≤ 27 + 2 * sumDigits + (7 + 3 * mostItems) + length (cutGroup cut)
-  unfolding yardLine
-  length-yardLine agent worth share cut few small small-share =
-      simp length-append (omega (arith, decimal-length agent 1 (omega arith) few, length-pileGroup, length-amounts worth share small small-share))
+  pub length-printedYard : (agent worth share : ℕ) (cut : List (List ℕ)) → agent < 10 → worth < 10 ^ sumDigits → share < 10 ^ sumDigits
+      → length (printedYard agent pile worth share cut) ≤ 27 + 2 * sumDigits + (7 + 3 * mostItems) + length (cutGroup cut)
+  unfolding printedYard
+  length-printedYard agent worth share cut few small small-share =
+      simp length-append (omega (arith, decimal-length agent 1 (omega arith) few, length-pileGroup, length-worthAndShare worth share small small-share))
 
 -- the whole, where no line of an agent is longer than so many bytes
 pub length-allLines : (agents items grade : ℕ) (line : ℕ → List ℕ) (cutters : List ℕ) (longest : ℕ) → agents < 10 → items < 100 → grade < 10

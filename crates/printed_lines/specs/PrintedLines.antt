@@ -8,7 +8,7 @@ use Rattle.text.specs.Decimal.{spacedNumbers}
 use Rattle.writing.specs.Fields.{field, group}
 
 -- "The head repeats the counts and adds the grade"
-unfoldable pub headLine : ℕ → ℕ → ℕ → List ℕ
+unfoldable pub headLine : (agents items grade : ℕ) → List ℕ
 headLine agents items grade = field "(division (yards " agents ++ field ") (pieces " items ++ field ") (grade " grade ++ bytes "))\n"
 
 -- "the pieces it gets": "The pieces of a pile rise", "An empty pile prints `(pile)`"
@@ -16,8 +16,8 @@ unfoldable pub pileGroup : List ℕ → List ℕ
 pileGroup pile = bytes " (pile" ++ spacedNumbers pile ++ bytes ")"
 
 -- "their worth by its marks, its share"
-unfoldable pub amounts : ℕ → ℕ → List ℕ
-amounts worth share = field " (worth " worth ++ field ") (share " share ++ bytes ")"
+unfoldable pub worthAndShare : ℕ → ℕ → List ℕ
+worthAndShare worth share = field " (worth " worth ++ field ") (share " share ++ bytes ")"
 
 -- a pile of a cut: "an empty pile in a cut prints `()`"
 abbrev pub cutPile : List ℕ → List ℕ
@@ -28,8 +28,8 @@ unfoldable pub cutGroup : List (List ℕ) → List ℕ
 cutGroup cut = bytes " (cut" ++ flatMap cutPile cut ++ bytes ")"
 
 -- "A yard line has the pieces it gets, their worth by its marks, its share, and its cut of all pieces into N piles"
-unfoldable pub yardLine : ℕ → List ℕ → ℕ → ℕ → List (List ℕ) → List ℕ
-yardLine agent pile worth share cut = field "(yard " agent ++ pileGroup pile ++ amounts worth share ++ cutGroup cut ++ bytes ")\n"
+unfoldable pub printedYard : ℕ → List ℕ → ℕ → ℕ → List (List ℕ) → List ℕ
+printedYard agent pile worth share cut = field "(yard " agent ++ pileGroup pile ++ worthAndShare worth share ++ cutGroup cut ++ bytes ")\n"
 
 -- "The cutters line has the cutter of each round in turn"
 unfoldable pub cuttersLine : List ℕ → List ℕ
@@ -37,5 +37,5 @@ cuttersLine cutters = bytes "(cutters" ++ spacedNumbers cutters ++ bytes ")\n"
 
 -- "the last line is `(end)`, and every printed line ends in one line feed": the head, the line of each agent, the cutters line, which order 5
 -- of document 02 leaves out, and the end
-unfoldable pub allLines : ℕ → ℕ → ℕ → (ℕ → List ℕ) → List ℕ → List ℕ
+unfoldable pub allLines : (agents items grade : ℕ) (line : ℕ → List ℕ) (cutters : List ℕ) → List ℕ
 allLines agents items grade line cutters = headLine agents items grade ++ flatMap line (range 1 agents) ++ cutters ++ bytes "(end)\n"

@@ -4,7 +4,7 @@ ghost use Rattle.sheet.specs.Limits.{mostAgents, mostItems};
 ghost use Rattle.sheet.specs.Sets.{itemsOf};
 ghost use Rattle.bundling.specs.Bundles.{allBundles};
 ghost use Rattle.writing.specs.Output.{output, Written};
-ghost use Rattle.printed_lines.specs.PrintedLines.{headLine, pileGroup, amounts, yardLine, cuttersLine};
+ghost use Rattle.printed_lines.specs.PrintedLines.{headLine, pileGroup, worthAndShare, printedYard, cuttersLine};
 ghost use Rattle.printed_lines.specs.BeforeZero.{beforeZero};
 use crate::cuts::put_cut;
 use crate::cutters::rounds_of;
@@ -44,7 +44,7 @@ fn put_pile(buffer: &mut [u8], at: usize, pile: u16) -> usize
 
 // The worth of an agent's bundle, and its share.
 fn put_amounts(buffer: &mut [u8], at: usize, worth: u64, share: u64) -> usize
-    ensures { λ r. ⌜ Written (output (now (buffer .entry)) at) (amounts worth share) (output (now (buffer .exit)) r) ⌝ }
+    ensures { λ r. ⌜ Written (output (now (buffer .entry)) at) (worthAndShare worth share) (output (now (buffer .exit)) r) ⌝ }
 {
     let valued = put_field(buffer, at, b" (worth ", worth);
     let shared = put_field(buffer, valued, b") (share ", share);
@@ -63,7 +63,7 @@ pub fn put_yard(
     share: u64,
     partition: Partition,
 ) -> usize
-    ensures { λ r. ⌜ Written (output (now (buffer .entry)) at) (yardLine agent (itemsOf pile) worth share (allBundles (min agents mostAgents) (min items mostItems) partition)) (output (now (buffer .exit)) r) ⌝ }
+    ensures { λ r. ⌜ Written (output (now (buffer .entry)) at) (printedYard agent (itemsOf pile) worth share (allBundles (min agents mostAgents) (min items mostItems) partition)) (output (now (buffer .exit)) r) ⌝ }
 {
     let yards = lesser(agents, Sheet::AGENTS);
     let pieces = lesser(items, Sheet::ITEMS);

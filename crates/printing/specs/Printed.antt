@@ -6,13 +6,13 @@ use Rattle.lists.specs.Lists.{nth}
 use Rattle.sheet.specs.Contents.{Contents}
 use Rattle.bundling.specs.Bundles.{allBundles}
 use Rattle.rounds.specs.Division.{Division}
-unfoldable pub use Rattle.printed_lines.specs.PrintedLines.{headLine, pileGroup, amounts, cutGroup, yardLine, cuttersLine, allLines}
+unfoldable pub use Rattle.printed_lines.specs.PrintedLines.{headLine, pileGroup, worthAndShare, cutGroup, printedYard, cuttersLine, allLines}
 
 -- the line of agent i: its bundle, the worth of that, which is by its own marks (proofs/printed/Worths.antt), its share, and its cut of all
 -- items into as many bundles as there are agents
 abbrev pub agentLine : Contents → Division → ℕ → List ℕ
 agentLine sheet d i =
-    yardLine i (nth [] (d .bundles) i) (nth 0 (d .worths) i) (nth 0 (d .shares) i) (allBundles (sheet .agents) (sheet .items) (nth [] (d .cuts) i))
+    printedYard i (nth [] (d .bundles) i) (nth 0 (d .worths) i) (nth 0 (d .shares) i) (allBundles (sheet .agents) (sheet .items) (nth [] (d .cuts) i))
 
 -- the printed division of a sheet
 unfoldable pub printed : Contents → Division → List ℕ

@@ -15,5 +15,5 @@ abbrev pub leastLoaded : ℕ → (ℕ → ℕ) → List ℕ → List ℕ → ℕ
 leastLoaded n load values l = leastOf (λ c. load c + bundleValue c values l) n
 
 -- a number of bundles, cut to the limits of a cut
-abbrev pub inUse : ℕ → ℕ
-inUse bundles = max 1 (min bundles mostAgents)
+abbrev pub limitedBundles : ℕ → ℕ
+limitedBundles bundles = max 1 (min bundles mostAgents)

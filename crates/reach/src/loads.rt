@@ -1,7 +1,7 @@
 // The loads of the bundles (piles): the values that lie on each.
 ghost use mathlib.Core.Path.{_≡_};
 ghost use Rattle.lists.specs.Sums.{leastOf};
-ghost use Rattle.reach.specs.Loads.{loadOf, inUse};
+ghost use Rattle.reach.specs.Loads.{loadOf, limitedBundles};
 use sheet::Sheet;
 use sheet::lesser;
 
@@ -10,7 +10,7 @@ pub type Loads = [u64; Sheet::AGENTS];
 
 // The least of the first `bundles` loads; their number is cut to the limits of a cut.
 pub fn least(loads: &Loads, bundles: usize) -> u64
-    ensures { λ r. ⌜ r ≡ leastOf (loadOf (now (loads .entry))) (inUse bundles) ⌝ }
+    ensures { λ r. ⌜ r ≡ leastOf (loadOf (now (loads .entry))) (limitedBundles bundles) ⌝ }
 {
     let last = lesser(bundles, Sheet::AGENTS);
     let mut low = loads[0];

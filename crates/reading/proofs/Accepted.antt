@@ -19,7 +19,7 @@ use Rattle.sheet_lines.specs.SheetForms.{lastLine}
 use Rattle.sheet_lines.specs.Grammar.{head, Body, body, endLine}
 use Rattle.sheet_lines.specs.Marks.{allowedRow}
 use Rattle.sheet_lines.specs.Kept.{tableOf}
-use Rattle.reading.specs.Reading.{contentsOf, sheetAtFront, sheetAlone, readingWithin, reading}
+use Rattle.reading.specs.Reading.{contentsOf, sheetAtFront, sheetAlone, readingBy, reading}
 
 pub accepted-injective : {A : Type 0} (a b : A) → accepted a ≡ accepted b → a ≡ b
 accepted-injective a b e = cc
@@ -139,13 +139,13 @@ ended-empty (t ∷ ts) e = absurd (false≢true e)
 
 -- a text that is a sheet
 module _ (limits : MarkLimits) (text : List ℕ) (c : Contents) where
-  pub sheet-passes : readingWithin limits text ≡ accepted c → AcceptedText limits text c []
+  pub sheet-passes : readingBy limits text ≡ accepted c → AcceptedText limits text c []
   sheet-passes e =
       let front = sheetAlone-accepted (sheetAtFront limits ended text) c e in
       let told = accepted-passes limits ended text c (front .0) (front .1) in
       subst (AcceptedText limits text c) (ended-empty (front .0) (told .1)) (told .0)
 
-  pub passes-sheet : AcceptedText limits text c [] → readingWithin limits text ≡ accepted c
+  pub passes-sheet : AcceptedText limits text c [] → readingBy limits text ≡ accepted c
   passes-sheet a = ap sheetAlone (passes-accepted limits ended text c [] a refl)
 
 -- a text that is accepted now

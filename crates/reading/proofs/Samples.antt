@@ -15,8 +15,8 @@ use Rattle.lexing.specs.Forms.{form, follow, inTurn}
 use Rattle.lexing.specs.Numbers.{numberAfter, number, digitsAfter, isNumber}
 use Rattle.sheet_lines.specs.Grammar.{endLine, body, yardLine, yardTurn, head}
 use Rattle.sheet_lines.specs.Kept.{tableOf}
-use Rattle.reading.specs.Reading.{contentsOf, readingWithin, reading, readingFront}
-use Rattle.reading.specs.SampleTexts.{sheetA}
+use Rattle.reading.specs.Reading.{contentsOf, readingBy, reading, readingFront}
+use Rattle.reading.specs.SampleTexts.{sheetTextA}
 
 -- the contents of a text with these counts and these rows of marks
 abbrev contents : ℕ → ℕ → List (List ℕ) → Answer Contents
@@ -67,7 +67,7 @@ pub samples-read : map (λ p. reading (bytes (p .0))) samples ≡ map (λ p. p .
 unfolding reading contentsOf endLine body yardLine yardTurn head numberAfter number digitsAfter isNumber follow inTurn onFirst lines beforeRemark extended words lineTokens tokens flatMap
 samples-read = refl
 
-pub samples-read-before : map (λ p. readingWithin earlierMarkLimits (bytes (p .0))) samples-before ≡ map (λ p. p .1) samples-before
+pub samples-read-before : map (λ p. readingBy earlierMarkLimits (bytes (p .0))) samples-before ≡ map (λ p. p .1) samples-before
 unfolding contentsOf endLine body yardLine yardTurn head numberAfter number digitsAfter isNumber follow inTurn onFirst lines beforeRemark extended words lineTokens tokens flatMap
 samples-read-before = refl
 
@@ -77,7 +77,7 @@ typed-read = refl
 
 -- refusal 1 counts the bytes as typed: sheet a with so many spaces behind it that the text has 4,096 bytes, and 4,097
 abbrev spaced : ℕ → List ℕ
-spaced n = sheetA ++ replicate n space
+spaced n = sheetTextA ++ replicate n space
 
 pub bytes-counted-as-typed : map reading (spaced 4015 ∷ spaced 4016 ∷ []) ≡ contents 2 3 ((5 ∷ 3 ∷ 4 ∷ []) ∷ (6 ∷ 2 ∷ 2 ∷ []) ∷ []) ∷ refused 1 ∷ []
 unfolding reading contentsOf endLine body yardLine yardTurn head numberAfter number digitsAfter isNumber follow inTurn onFirst lines beforeRemark extended words lineTokens tokens flatMap

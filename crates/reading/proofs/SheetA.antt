@@ -8,9 +8,9 @@ use Rattle.lexing.specs.Forms as forms
 use Rattle.lexing.specs.Numbers as numbers
 use Rattle.sheet_lines.specs.Grammar as grammar
 use Rattle.reading.specs.Reading.{contentsOf, reading}
-use Rattle.reading.specs.SampleTexts.{sheetA, typedSheetA, contentsA}
+use Rattle.reading.specs.SampleTexts.{sheetTextA, typedSheetA, contentsA}
 
-pub sheet-a-read : reading sheetA ≡ accepted contentsA
+pub sheet-a-read : reading sheetTextA ≡ accepted contentsA
 unfolding reading contentsOf grammar.endLine grammar.body grammar.yardLine grammar.yardTurn grammar.head numbers.numberAfter numbers.number numbers.digitsAfter numbers.isNumber forms.inTurn forms.follow onFirst lines beforeRemark extended words lineTokens tokens flatMap
 sheet-a-read = refl
 

@@ -10,7 +10,7 @@ use Rattle.lists.specs.Lists.{zeros, padded, all}
 use Rattle.lists.proofs.places.Zeros.{getD-zeros}
 use Rattle.sheet.specs.Limits.{mostAgents, mostItems, greatestMark, blankRow}
 use Rattle.sheet.specs.Valuations.{itemValue}
-use Rattle.sheet.specs.Tables.{valuation}
+use Rattle.sheet.specs.Tables.{valuationOf}
 use Rattle.sheet_lines.specs.Marks.{allowed, allowedRow}
 use Rattle.sheet_lines.specs.Kept.{tableOf}
 
@@ -36,7 +36,7 @@ rows-small (row ∷ rows) n zero each = row-small row (mostItems - length row) (
 rows-small (row ∷ rows) n (suc i) each = rows-small rows n i (and-eq-true-iff (allowedRow greatestMark row) (all (allowedRow greatestMark) rows) .0 each .1)
 
 -- the marks of a table that is read
-pub table-small : (rows table : List (List ℕ)) → table ≡ tableOf rows → all (allowedRow greatestMark) rows ≡ true → (i k : ℕ) → itemValue (valuation table i) k ≤ greatestMark
+pub table-small : (rows table : List (List ℕ)) → table ≡ tableOf rows → all (allowedRow greatestMark) rows ≡ true → (i k : ℕ) → itemValue (valuationOf table i) k ≤ greatestMark
 unfolding Small
 table-small rows table full each i k =
-    omega (arith, ap (λ t. itemValue (valuation t i) k) full, rows-small rows (mostAgents - length (map (padded mostItems 0) rows)) (i - 1) each (k - 1))
+    omega (arith, ap (λ t. itemValue (valuationOf t i) k) full, rows-small rows (mostAgents - length (map (padded mostItems 0) rows)) (i - 1) each (k - 1))

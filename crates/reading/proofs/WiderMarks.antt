@@ -18,7 +18,7 @@ use Rattle.lexing.proofs.readers.AlsoReads.{AlsoReads, also-itself, then-also, 
 use Rattle.sheet_lines.specs.SheetForms.{lineEnd}
 use Rattle.sheet_lines.specs.Grammar.{marks, yardTurn, yardLine, yardLines, Body, body}
 use Rattle.sheet_lines.specs.Marks.{allowed, allowedRow}
-use Rattle.reading.specs.Reading.{contentsOf, readingWithin, reading}
+use Rattle.reading.specs.Reading.{contentsOf, readingBy, reading}
 use Rattle.reading.proofs.Accepted.{sheet-passes, passes-sheet, contentsOf-carried, carried-contentsOf}
 
 -- what is read with fewer digits to a mark is read with more
@@ -56,7 +56,7 @@ contentsOf-wider limits wider greater lines c e =
     (told .table-is)
 
 pub accepted-within-wider : (limits wider : MarkLimits) → limits .greatest ≤ wider .greatest → limits .digits ≤ wider .digits
-    → (text : List ℕ) (c : Contents) → readingWithin limits text ≡ accepted c → readingWithin wider text ≡ accepted c
+    → (text : List ℕ) (c : Contents) → readingBy limits text ≡ accepted c → readingBy wider text ≡ accepted c
 accepted-within-wider limits wider greater more text c e =
     let a = sheet-passes limits text c e in
     passes-sheet wider text c
@@ -75,11 +75,11 @@ accepted-within-wider limits wider greater more text c e =
     })
 
 -- a text accepted when a mark went to 65,535 in five digits is accepted now, with the same counts and table
-pub accepted-before : (text : List ℕ) (c : Contents) → readingWithin earlierMarkLimits text ≡ accepted c → reading text ≡ accepted c
+pub accepted-before : (text : List ℕ) (c : Contents) → readingBy earlierMarkLimits text ≡ accepted c → reading text ≡ accepted c
 unfolding reading
 accepted-before = accepted-within-wider earlierMarkLimits markLimits (omega arith) (omega arith)
 
 -- so what follows reading answers what it answered
-pub answered-as-before : {B : Type 0} (next : Contents → Answer B) (text : List ℕ) (c : Contents) → readingWithin earlierMarkLimits text ≡ accepted c
-    → andThen (reading text) next ≡ andThen (readingWithin earlierMarkLimits text) next
+pub answered-as-before : {B : Type 0} (next : Contents → Answer B) (text : List ℕ) (c : Contents) → readingBy earlierMarkLimits text ≡ accepted c
+    → andThen (reading text) next ≡ andThen (readingBy earlierMarkLimits text) next
 answered-as-before next text c e = ap (λ a. andThen a next) (accepted-before text c e ∙ sym e)

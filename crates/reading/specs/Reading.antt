@@ -49,12 +49,12 @@ abbrev pub sheetAlone : Answer (Contents × List Token) → Answer Contents
 sheetAlone a = andThen a (λ (c, ts). accepted c)
 
 -- a text that is a sheet: behind the line `(end)` stands "the end of the text"
-abbrev pub readingWithin : MarkLimits → List ℕ → Answer Contents
-readingWithin limits text = sheetAlone (sheetAtFront limits ended text)
+abbrev pub readingBy : MarkLimits → List ℕ → Answer Contents
+readingBy limits text = sheetAlone (sheetAtFront limits ended text)
 
 -- the limits of a mark are those of order 3 of document 02
 unfoldable pub reading : List ℕ → Answer Contents
-reading text = readingWithin markLimits text
+reading text = readingBy markLimits text
 
 -- a sheet with another text behind it (document 02, order 5): "a sheet through its `(end)` line (in this reading refusal 7 is given only
 -- where that line does not follow the yard lines)"

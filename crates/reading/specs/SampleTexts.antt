@@ -7,8 +7,8 @@ use Rattle.sheet.specs.Contents.{Contents}
 use Rattle.sheet_lines.specs.Kept.{tableOf}
 
 -- sheet a in the strict layout (samples/a.sheet)
-abbrev pub sheetA : List ℕ
-sheetA = bytes "(sheet (yards 2) (pieces 3))\n(yard 1 (marks 5 3 4))\n(yard 2 (marks 6 2 2))\n(end)\n"
+abbrev pub sheetTextA : List ℕ
+sheetTextA = bytes "(sheet (yards 2) (pieces 3))\n(yard 1 (marks 5 3 4))\n(yard 2 (marks 6 2 2))\n(end)\n"
 
 -- sheet a as a yard would type it (samples/typed.sheet)
 abbrev pub typedSheetA : List ℕ

@@ -14,7 +14,7 @@ use Rattle.lists.proofs.ranges.Ranges.{in-range, range-bounds, length-range, nt
 use Rattle.lists.proofs.members.Counting.{sublist-mem, mem-all}
 use Rattle.lists.proofs.sums.InOneList.{in-one-list}
 use Rattle.sheet.specs.Valuations.{value}
-use Rattle.sheet.specs.Tables.{valuation, profile}
+use Rattle.sheet.specs.Tables.{valuationOf, profile}
 use Rattle.sheet.specs.Contents.{sheetOf}
 use Rattle.sheet.specs.Allocations.{Allocates}
 use Rattle.sheet.proofs.valuing.Tables.{value-profile}
@@ -23,7 +23,7 @@ use Rattle.shares.proofs.Profile.{nth-shares, shareOf-profile}
 use Rattle.terms.specs.declared.Terms.{Terms}
 use Rattle.margins.specs.Margins.{noneNegative}
 use Rattle.grades.proofs.NoneNegative.{noneNegative-own}
-use Rattle.rounds.specs.Round.{Instance, suits, held}
+use Rattle.rounds.specs.Round.{Instance, itemsSuit, held}
 use Rattle.rounds.specs.Division.{instanceOf, allRounds, allocation, allocationAssessment}
 use Rattle.terms.specs.Allowed.{AtMostStandard}
 use Rattle.rounds.proofs.round.Invariant.{Sound, left-all}
@@ -54,7 +54,7 @@ module _ (n m : ℕ) (terms : Terms) (table : List (List ℕ)) where
     sound = record { allowed = allowed; own-shares = λ agent i. nth-shares n m table i ∙ sym (shareOf-profile n m table i) }
 
     -- each agent holds a bundle that suits it
-    holds-suiting : (agent : ℕ) → Mem agent (range 1 n) → suits G agent (nth [] (allocation n m G) agent) ≡ true
+    holds-suiting : (agent : ℕ) → Mem agent (range 1 n) → itemsSuit G agent (nth [] (allocation n m G) agent) ≡ true
     holds-suiting agent i =
         rw (nth-map-range holds [] n i) (held-suits sound n (range 1 n) (range 1 m) agents-enough (left-all n m G) agent i)
 
@@ -64,7 +64,7 @@ module _ (n m : ℕ) (terms : Terms) (table : List (List ℕ)) where
 
     -- by the marks of the table each agent holds what it is promised
     pub holds-promised : (agent : ℕ) → Mem agent (range 1 n)
-        → leb (terms .top * shareOf (sheetOf n m table) agent) (terms .bottom * value (valuation table agent) (nth [] (allocation n m G) agent)) ≡ true
+        → leb (terms .top * shareOf (sheetOf n m table) agent) (terms .bottom * value (valuationOf table agent) (nth [] (allocation n m G) agent)) ≡ true
     holds-promised agent i =
         let of-items : Sublist (nth [] (allocation n m G) agent) (range 1 m) = rw (nth-map-range holds [] n i) (held-sublist G n (range 1 n) (range 1 m) agent) in
         rw (← nth-shares n m table i, ← value-profile n m table i of-items) (holds-suiting agent i)

@@ -8,7 +8,7 @@ use lib.ListN.{length, length-map}
 use Rattle.lists.specs.Lists.{range, nth}
 use Rattle.lists.proofs.ranges.Ranges.{in-range, length-range, nth-map-range, nth-mem}
 use Rattle.sheet.specs.Answers.{accepted}
-use Rattle.sheet.specs.Tables.{valuation, allValues, profile}
+use Rattle.sheet.specs.Tables.{valuationOf, allValues, profile}
 use Rattle.sheet.specs.Contents.{Contents, sheetOf}
 use Rattle.sheet.proofs.valuing.Tables.{length-profile}
 use Rattle.maximin.specs.Share.{maximinShare, maximinPartition}
@@ -32,10 +32,10 @@ module _ (n m : ℕ) (terms : Terms) (table : List (List ℕ)) (allowed : AtMost
   G = instanceOf n terms (profile n m table)
 
   own-share-and-cut : (agent : ℕ) → 1 ≤ agent → agent ≤ n
-      → ShareAndCut n (allValues m (valuation table agent)) (nth 0 (map (maximinShare n) (profile n m table)) agent) (nth [] (map (maximinPartition n) (profile n m table)) agent)
+      → ShareAndCut n (allValues m (valuationOf table agent)) (nth 0 (map (maximinShare n) (profile n m table)) agent) (nth [] (map (maximinPartition n) (profile n m table)) agent)
   own-share-and-cut agent lo hi =
       let in-use : Mem agent (range 1 n) = in-range 1 n agent lo (omega arith) in
-      rw (nth-shares n m table in-use, nth-cuts n m table in-use) (share-and-cut-as-documented n (allValues m (valuation table agent)) (omega arith))
+      rw (nth-shares n m table in-use, nth-cuts n m table in-use) (share-and-cut-as-documented n (allValues m (valuationOf table agent)) (omega arith))
 
   bundle-at-place : (r : Round) → Mem r (allRounds n m G) → (k : ℕ) → 1 ≤ k → k ≤ length (r .served)
       → nth [] (map (held (allRounds n m G)) (range 1 n)) (nth 0 (r .served) k) ≡ nth [] (r .bundles) k

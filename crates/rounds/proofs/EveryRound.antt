@@ -11,12 +11,12 @@ use Rattle.lists.proofs.ranges.Ranges.{length-range}
 use Rattle.lists.proofs.places.Passing.{empty}
 use Rattle.lists.proofs.dictionary.Dictionary.{range-rising, pairwise-sublist}
 use Rattle.sheet.specs.Valuations.{itemValue}
-use Rattle.sheet.specs.Tables.{valuation, profile}
+use Rattle.sheet.specs.Tables.{valuationOf, profile}
 use Rattle.maximin.specs.Share.{maximinShare, maximinPartition}
 use Rattle.maximin.proofs.Laws.{leastBundle-le-maximinShare, maximinPartition-within, leastBundle-maximinPartition, maximinPartition-precedes}
 use Rattle.matching.specs.Matching.{cutterOf, chosenOf}
 use Rattle.matching.proofs.Cutter.{cutterOf-mem, cutterOf-lowest}
-use Rattle.matching.proofs.Serving.{waitingOf-largest, cutter-served}
+use Rattle.matching.proofs.AllServed.{waitingOf-largest, cutter-served}
 use Rattle.matching.proofs.Ties.{waitingOf-first, chosenOf-first}
 use Rattle.terms.specs.declared.Terms.{Terms}
 use Rattle.rounds.specs.Round.{Instance, Round, round, rounds}
@@ -47,7 +47,7 @@ module _ {N M : ℕ} {G : Instance} {agents items : List ℕ} (sound : Sound N M
 
   -- the cutter's values of the items left
   abbrev values : List ℕ
-  values = map (itemValue (valuation (G .valuations) cutter)) items
+  values = map (itemValue (valuationOf (G .valuations) cutter)) items
 
   rising : Rising agents
   rising = pairwise-sublist (λ x y. x < y) (state .of-agents) (range-rising 1 N)
@@ -63,20 +63,20 @@ module _ {N M : ℕ} {G : Instance} {agents items : List ℕ} (sound : Sound N M
         share-of-left = maximinShare n values;
         cut = cutterCut G agents items;
         cut-of-left = share-and-cut-as-documented n values some;
-        waiting-tight = (waitingOf-largest suiting cutter agents .sublist, waitingOf-largest suiting cutter agents .bound);
-        waiting-largest = λ set t. waitingOf-largest suiting cutter agents .largest set (t .0) (t .1);
-        waiting-first = λ set t. waitingOf-first suiting cutter agents rising set (t .0) (t .1);
+        waiting-tight = (waitingOf-largest suits cutter agents .sublist, waitingOf-largest suits cutter agents .bound);
+        waiting-largest = λ set t. waitingOf-largest suits cutter agents .largest set (t .0) (t .1);
+        waiting-first = λ set t. waitingOf-first suits cutter agents rising set (t .0) (t .1);
         served-others = refl;
-        cutter-served = cutter-served suiting cutter agents (cutterOf-mem agents some);
-        chosen = chosenOf suiting cutter agents;
+        cutter-served = cutter-served suits cutter agents (cutterOf-mem agents some);
+        chosen = chosenOf suits cutter agents;
         chosen-serves = matched sound some state;
-        chosen-first = chosenOf-first suiting cutter agents;
+        chosen-first = chosenOf-first suits cutter agents;
         bundles-chosen = refl;
         left-together = refl;
       }
     where
-      suiting : ℕ → ℕ → Bool
-      suiting = cutSuits G agents items
+      suits : ℕ → ℕ → Bool
+      suits = cutSuits G agents items
 
 rounds-follow-on : (G : Instance) (most : ℕ) (agents items : List ℕ) → length agents ≤ most → FollowOn agents items (rounds G most agents items)
 unfolding rounds

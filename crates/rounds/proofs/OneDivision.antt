@@ -17,7 +17,7 @@ use Rattle.sheet.specs.Contents.{Contents}
 use Rattle.terms.specs.declared.Terms.{Terms}
 use Rattle.rounds.specs.Round.{Instance, Round}
 use Rattle.rounds.specs.Division.{Division}
-use Rattle.rounds.specs.Documented.{ShareAndCut, valuesLeft, TightSet, Serving, RoundAsDocumented, FollowOn, instanceIn, DividedAsDocumented}
+use Rattle.rounds.specs.Documented.{ShareAndCut, valuesLeft, TightSet, IsMatching, RoundAsDocumented, FollowOn, instanceIn, DividedAsDocumented}
 
 -- "The maximin share", and "the cut": there is one of each
 module _ {n : ℕ} {values : List ℕ} {share share′ : ℕ} {cut cut′ : List ℕ} (s : ShareAndCut n values share cut) (s′ : ShareAndCut n values share′ cut′) where
@@ -62,10 +62,10 @@ module _ {G : Instance} {r r′ : Round} (d : RoundAsDocumented G r) (d′ : Rou
   served : r .served ≡ r′ .served
   served = rw (d .served-others, d′ .served-others, waiting, agents)
 
-  serving : (chosen : List ℕ) → Serving G r (d .cut) chosen → Serving G r′ (d′ .cut) chosen
+  serving : (chosen : List ℕ) → IsMatching G r (d .cut) chosen → IsMatching G r′ (d′ .cut) chosen
   serving chosen s = rw (← agents, ← items, ← waiting, ← served, ← cut) s
 
-  serving′ : (chosen : List ℕ) → Serving G r′ (d′ .cut) chosen → Serving G r (d .cut) chosen
+  serving′ : (chosen : List ℕ) → IsMatching G r′ (d′ .cut) chosen → IsMatching G r (d .cut) chosen
   serving′ chosen s = rw (agents, items, waiting, served, cut) s
 
   chosen : d .chosen ≡ d′ .chosen

@@ -13,7 +13,7 @@ use Rattle.maximin.specs.Share.{maximinShare, maximinPartition}
 use Rattle.cut.specs.Outcome.{Found, found, cutting}
 use Rattle.terms.specs.Terms.{largestOdd, termsFor}
 use Rattle.margins.specs.Margins.{margin}
-use Rattle.sheet.specs.Tables.{valuation, profile}
+use Rattle.sheet.specs.Tables.{valuationOf, profile}
 use Rattle.matching.specs.Matching.{waitingSet, matching}
 use Rattle.rounds.specs.Round.{round, rounds, held}
 use Rattle.grades.specs.Grade.{envyFree, proportional, maximinFair, grade}
@@ -42,7 +42,7 @@ starred-hold = refl
 -- zero by the terms for three yards, and zero by two thirds
 pub six-of-nine-falls-short :
     let share = shareOf (twoThirdsSheet .sheet) 2 in
-    let worth = value (valuation (twoThirdsSheet .sheet .table) 2) (3 ∷ []) in
+    let worth = value (valuationOf (twoThirdsSheet .sheet .table) 2) (3 ∷ []) in
     (share ≡ 9) × (worth ≡ 6) × (margin (termsFor 3) worth share ≡ negsuc 5) × (margin twoThirds worth share ≡ pos 0)
 unfolding termsFor largestOdd maximinShare margin
 six-of-nine-falls-short = (refl, refl, refl, refl)

@@ -16,7 +16,7 @@ use Rattle.terms.specs.Terms.{termsFor}
 use Rattle.terms.specs.Allowed.{AtMostStandard}
 use Rattle.terms.specs.declared.Terms.{Terms}
 use Rattle.sheet.specs.Tables.{AgreeInUse}
-use Rattle.rounds.specs.Round.{Instance, suits, Round, round}
+use Rattle.rounds.specs.Round.{Instance, itemsSuit, Round, round}
 use Rattle.rounds.specs.Division.{Division, instanceOfTable, standardInstance, allRounds, answer}
 use Rattle.terms.proofs.Allowed.{termsFor-at-most-standard}
 use Rattle.sheet.proofs.valuing.Tables.{profile-agree}
@@ -37,7 +37,7 @@ module _ (n m : ℕ) (terms : Terms) (table : List (List ℕ)) (allowed : AtMost
   every-round-serves =
       let is-sound = sound n m terms table allowed in
       rounds-each is-sound (λ r. length (r .bundles) ≡ length (r .served))
-      (λ agents items some state. allSuit-length (suits G) (round G agents items .served) (round G agents items .bundles) (round-suits is-sound some state))
+      (λ agents items some state. allSuit-length (itemsSuit G) (round G agents items .served) (round G agents items .bundles) (round-suits is-sound some state))
       n (range 1 n) (range 1 m) (left-all n m G)
 
   -- the agents left and the items left in a round have no more growth partitions than all agents and all items

@@ -9,7 +9,7 @@ use lib.ListN.{length}
 use Rattle.lists.specs.Lists.{range, Within, Rising, nth, count, elem}
 use Rattle.lists.specs.Dictionary.{Precedes}
 use Rattle.sheet.specs.Valuations.{itemValue}
-use Rattle.sheet.specs.Tables.{valuation, allValues}
+use Rattle.sheet.specs.Tables.{valuationOf, allValues}
 use Rattle.sheet.specs.Contents.{Contents, valuationsOf}
 use Rattle.maximin.specs.Share.{leastBundle}
 use Rattle.terms.specs.declared.Terms.{Terms}
@@ -36,7 +36,7 @@ module _ (n : ℕ) (values : List ℕ) where
 module _ (G : Instance) (r : Round) where
   -- the cutter's values of the items left
   abbrev pub valuesLeft : List ℕ
-  valuesLeft = map (itemValue (valuation (G .valuations) (r .cutter))) (r .items)
+  valuesLeft = map (itemValue (valuationOf (G .valuations) (r .cutter))) (r .items)
 
   -- a "set of yards left, without the cutter, for which at most as many piles suit some yard of the set as the set has yards", in rising order
   abbrev pub TightSet : List ℕ → List ℕ → Type 0
@@ -44,10 +44,10 @@ module _ (G : Instance) (r : Round) where
 
   -- a way to serve "from the piles that suit no waiting yard: each gets one pile that suits it, no pile twice", as "the pile numbers of
   -- the served yards in rising yard order"
-  abbrev pub Serving : List ℕ → List ℕ → Type 0
-  Serving cut chosen =
-      let suited : ℕ → ℕ → Bool = suitsIn G (r .items) cut in
-      Matched suited (r .served) (freeBundles suited (r .waiting) (bundleNumbers (r .agents))) chosen
+  abbrev pub IsMatching : List ℕ → List ℕ → Type 0
+  IsMatching cut chosen =
+      let suits : ℕ → ℕ → Bool = suitsIn G (r .items) cut in
+      Matched suits (r .served) (freeBundles suits (r .waiting) (bundleNumbers (r .agents))) chosen
 
   -- the sentences of document 01, "Rounds", on one round
   pub record RoundAsDocumented : Type 0 where
@@ -70,8 +70,8 @@ module _ (G : Instance) (r : Round) where
     pub cutter-served : Mem (r .cutter) (r .served)
     -- "from the piles that suit no waiting yard: each gets one pile that suits it, no pile twice. .. the tie rule picks."
     pub chosen : List ℕ
-    pub chosen-serves : Serving cut chosen
-    pub chosen-first : (other : List ℕ) → Serving cut other → Precedes chosen other
+    pub chosen-serves : IsMatching cut chosen
+    pub chosen-first : (other : List ℕ) → IsMatching cut other → Precedes chosen other
     pub bundles-chosen : r .bundles ≡ map (bundle (r .items) cut) chosen
     -- "the pieces of every pile not handed out are put together"
     pub left-together : r .left ≡ itemsIn (λ c. not (elem c chosen)) (r .items) cut
@@ -93,7 +93,7 @@ module _ (sheet : Contents) (terms : Terms) (d : Division) where
     pub share-each : length (d .shares) ≡ sheet .agents
     pub cut-each : length (d .cuts) ≡ sheet .agents
     pub share-and-cut : (agent : ℕ) → 1 ≤ agent → agent ≤ sheet .agents
-        → ShareAndCut (sheet .agents) (allValues (sheet .items) (valuation (sheet .table) agent)) (nth 0 (d .shares) agent) (nth [] (d .cuts) agent)
+        → ShareAndCut (sheet .agents) (allValues (sheet .items) (valuationOf (sheet .table) agent)) (nth 0 (d .shares) agent) (nth [] (d .cuts) agent)
     -- "every round": from all agents and all items, each as document 01 says, until no agent waits
     pub rounds : List Round
     pub rounds-follow-on : FollowOn (range 1 (sheet .agents)) (range 1 (sheet .items)) rounds

@@ -10,7 +10,7 @@ use Rattle.sheet.specs.Valuations.{itemValue, value}
 use Rattle.bundling.specs.Bundles.{itemsIn, bundle}
 use Rattle.maximin.specs.Share.{maximinPartition}
 use Rattle.terms.specs.declared.Terms.{Terms}
-use Rattle.sheet.specs.Tables.{valuation}
+use Rattle.sheet.specs.Tables.{valuationOf}
 use Rattle.matching.specs.Matching.{cutterOf, waitingOf, servedOf, chosenOf}
 
 -- one round: the agents and items left when it begins, and what it settles; the agents served have the bundles at the same places
@@ -31,31 +31,31 @@ pub record Instance : Type 0 where
 
 module _ (G : Instance) where
   -- "A pile suits a yard when bottom × worth is at least top × that yard's maximin share"
-  abbrev pub suits : ℕ → List ℕ → Bool
-  suits agent items = leb (G .terms .top * nth 0 (G .shares) agent) (G .terms .bottom * value (valuation (G .valuations) agent) items)
+  abbrev pub itemsSuit : ℕ → List ℕ → Bool
+  itemsSuit agent items = leb (G .terms .top * nth 0 (G .shares) agent) (G .terms .bottom * value (valuationOf (G .valuations) agent) items)
 
   -- whether bundle c of a partition of the items suits the agent
   abbrev pub suitsIn : List ℕ → List ℕ → ℕ → ℕ → Bool
-  suitsIn items l agent c = suits agent (bundle items l c)
+  suitsIn items l agent c = itemsSuit agent (bundle items l c)
 
   -- "It cuts the pieces left into n piles"
   abbrev pub cutBy : ℕ → ℕ → List ℕ → List ℕ
-  cutBy agent n items = maximinPartition n (map (itemValue (valuation (G .valuations) agent)) items)
+  cutBy agent n items = maximinPartition n (map (itemValue (valuationOf (G .valuations) agent)) items)
 
   -- "One round has n yards left and a set of pieces left"
   unfoldable pub round : List ℕ → List ℕ → Round
   round agents items =
       let cutter = cutterOf agents in
       let l = cutBy cutter (length agents) items in
-      let suited : ℕ → ℕ → Bool = suitsIn items l in
+      let suits : ℕ → ℕ → Bool = suitsIn items l in
       record {
         agents = agents;
         items = items;
         cutter = cutter;
-        served = servedOf suited cutter agents;
-        bundles = map (bundle items l) (chosenOf suited cutter agents);
-        waiting = waitingOf suited cutter agents;
-        left = itemsIn (λ c. not (elem c (chosenOf suited cutter agents))) items l;
+        served = servedOf suits cutter agents;
+        bundles = map (bundle items l) (chosenOf suits cutter agents);
+        waiting = waitingOf suits cutter agents;
+        left = itemsIn (λ c. not (elem c (chosenOf suits cutter agents))) items l;
       }
 
   -- "If yards wait, the pieces of every pile not handed out are put together, and the waiting yards divide them by the same steps":

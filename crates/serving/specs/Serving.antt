@@ -12,7 +12,7 @@ use Rattle.serving.specs.declared.Serving.{Serving}
 
 -- "A pile suits a yard": by a table with a row for each agent (yard) and a place in it for each bundle (pile)
 abbrev pub suitsOf : List (List Bool) → ℕ → ℕ → Bool
-suitsOf suits agent bundle = nth false (nth [] suits agent) bundle
+suitsOf suiting agent bundle = nth false (nth [] suiting agent) bundle
 
 -- the "yards left", rising: bit k - 1 stands for agent k, as for piece k in a set of pieces, and bits above the last agent are passed over
 abbrev pub agentsIn : ℕ → List ℕ

@@ -5,7 +5,7 @@ ghost use Rattle.matching.specs.Matching.{matching};
 ghost use Rattle.serving.specs.Serving.{suitsOf};
 ghost use Rattle.serving.specs.internal.Listing.{IsNumbered, OfSheet};
 ghost use Rattle.serving.specs.internal.Searching.{PartialMatching, firstMatching};
-use crate::Suits;
+use crate::Suiting;
 use crate::suiting::is_suited;
 use sheet::listing::Numbers;
 use sheet::listing::append;
@@ -13,9 +13,9 @@ use sheet::listing::contains;
 use sheet::listing::none;
 
 // The first matching of the agents that begins with the bundles chosen, and no numbers where there is none.
-fn extend(suits: Suits, served: Numbers, free: Numbers, chosen: Numbers) -> Numbers
-    requires { ⌜ OfSheet served × OfSheet free × IsNumbered chosen × PartialMatching (suitsOf suits) (listed served) (listed chosen) ⌝ }
-    ensures { λ r. ⌜ r ≡ numbered (firstMatching (suitsOf suits) (listed served) (listed free) (listed chosen)) ⌝ }
+fn extend(suiting: Suiting, served: Numbers, free: Numbers, chosen: Numbers) -> Numbers
+    requires { ⌜ OfSheet served × OfSheet free × IsNumbered chosen × PartialMatching (suitsOf suiting) (listed served) (listed chosen) ⌝ }
+    ensures { λ r. ⌜ r ≡ numbered (firstMatching (suitsOf suiting) (listed served) (listed free) (listed chosen)) ⌝ }
 {
     let count = chosen.count;
     if count == served.count {
@@ -28,9 +28,9 @@ fn extend(suits: Suits, served: Numbers, free: Numbers, chosen: Numbers) -> Numb
     let mut at: usize = 0;
     while at < free.count {
         let bundle = bundles[at];
-        if is_suited(suits, agent, bundle) {
+        if is_suited(suiting, agent, bundle) {
             if !contains(used, bundle) {
-                let found = extend(suits, served, free, append(chosen, bundle));
+                let found = extend(suiting, served, free, append(chosen, bundle));
                 if found.count != 0 {
                     return found;
                 }
@@ -42,9 +42,9 @@ fn extend(suits: Suits, served: Numbers, free: Numbers, chosen: Numbers) -> Numb
 }
 
 // The first matching of the agents served with the free bundles: the bundle of each agent.
-pub(crate) fn matched(suits: Suits, served: Numbers, free: Numbers) -> Numbers
+pub(crate) fn matched(suiting: Suiting, served: Numbers, free: Numbers) -> Numbers
     requires { ⌜ OfSheet served × OfSheet free ⌝ }
-    ensures { λ r. ⌜ r ≡ numbered (matching (suitsOf suits) (listed served) (listed free)) ⌝ }
+    ensures { λ r. ⌜ r ≡ numbered (matching (suitsOf suiting) (listed served) (listed free)) ⌝ }
 {
-    extend(suits, served, free, none())
+    extend(suiting, served, free, none())
 }

@@ -17,7 +17,7 @@ mod suiting;
 mod waiting;
 
 // Whether a bundle (place) suits an agent (row).
-pub type Suits = [[bool; Sheet::AGENTS]; Sheet::AGENTS];
+pub type Suiting = [[bool; Sheet::AGENTS]; Sheet::AGENTS];
 
 // What one round settles: the agents served, their bundles at the same places, and the set of the agents that wait.
 pub struct Serving {
@@ -41,14 +41,14 @@ pub fn cutter_of(left: u16) -> u8
 
 // One round of the agents left, a set of agents as above, with the one of them who cuts: where the cutter is not one of them, each of them
 // may wait.
-pub fn serve(suits: Suits, cutter: u8, left: u16) -> Serving
-    ensures { λ r. ⌜ r ≡ servingOf (suitsOf suits) cutter (agentsIn left) ⌝ }
+pub fn serve(suiting: Suiting, cutter: u8, left: u16) -> Serving
+    ensures { λ r. ⌜ r ≡ servingOf (suitsOf suiting) cutter (agentsIn left) ⌝ }
 {
     let agents = items_of(left % AGENT_SETS);
-    let waiting = waiting(suits, cutter, agents);
+    let waiting = waiting(suiting, cutter, agents);
     let served = served(waiting, agents);
-    let free = free(suits, waiting, agents.count);
-    let chosen = matched(suits, served, free);
+    let free = free(suiting, waiting, agents.count);
+    let chosen = matched(suiting, served, free);
     let waits = waiting.numbers;
     Serving {
         served,

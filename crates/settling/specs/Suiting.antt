@@ -7,14 +7,14 @@ use Rattle.lists.specs.Lists.{range, nth}
 use Rattle.sheet.specs.Limits.{mostAgents, greatestSum}
 use Rattle.sheet.specs.Sets.{itemsOf}
 use Rattle.sheet.specs.Valuations.{value}
-use Rattle.sheet.specs.Tables.{valuation}
+use Rattle.sheet.specs.Tables.{valuationOf}
 use Rattle.terms.specs.declared.Terms.{Terms}
-use Rattle.margins.specs.Margins.{termsWithin}
+use Rattle.margins.specs.Margins.{limitedTerms}
 
 -- "A pile suits a yard when bottom × worth is at least top × that yard's maximin share": the items of a set, and an agent with this valuation
 -- and share; the terms and the share are cut to their limits
 abbrev pub setSuits : Terms → List ℕ → ℕ → ℕ → Bool
-setSuits terms valuation share set = leb (termsWithin terms .top * min share greatestSum) (termsWithin terms .bottom * value valuation (itemsOf set))
+setSuits terms valuation share set = leb (limitedTerms terms .top * min share greatestSum) (limitedTerms terms .bottom * value valuation (itemsOf set))
 
 -- whether each of the sets suits an agent with this valuation and share
 unfoldable pub suitsRow : Terms → List ℕ → ℕ → List ℕ → List Bool
@@ -22,4 +22,4 @@ suitsRow terms valuation share sets = map (λ c. setSuits terms valuation share 
 
 -- the row of each agent
 unfoldable pub suitsTable : Terms → List (List ℕ) → List ℕ → List ℕ → List (List Bool)
-suitsTable terms table shares sets = map (λ agent. suitsRow terms (valuation table agent) (nth 0 shares agent) sets) (range 1 mostAgents)
+suitsTable terms table shares sets = map (λ agent. suitsRow terms (valuationOf table agent) (nth 0 shares agent) sets) (range 1 mostAgents)

@@ -39,8 +39,8 @@ pub fn settle_round(
     ensures { λ r. ⌜ r ≡ settledBy terms table shares cutter left set partition ⌝ }
 {
     let sets = bundle_sets(set, partition);
-    let suits = suits_table(table, shares, terms, sets);
-    let round = serve(suits, cutter, left);
+    let suiting = suits_table(table, shares, terms, sets);
+    let round = serve(suiting, cutter, left);
     let chosen = round.chosen;
     let numbers = chosen.numbers;
     let count = chosen.count;

@@ -2,7 +2,7 @@
 ghost use mathlib.Core.Path.{_≡_};
 ghost use Rattle.settling.specs.Suiting.{setSuits, suitsRow, suitsTable};
 use margins::margin_of;
-use serving::Suits;
+use serving::Suiting;
 use sheet::Row;
 use sheet::Sets;
 use sheet::Sheet;
@@ -36,15 +36,15 @@ fn suits_row(valuation: Row, share: u64, terms: Terms, sets: Sets) -> [bool; She
 }
 
 // Which of the sets suit which agent, by the terms.
-pub(crate) fn suits_table(table: Table, shares: Amounts, terms: Terms, sets: Sets) -> Suits
+pub(crate) fn suits_table(table: Table, shares: Amounts, terms: Terms, sets: Sets) -> Suiting
     ensures { λ r. ⌜ r ≡ suitsTable terms table shares sets ⌝ }
 {
-    let mut suits = [[false; Sheet::AGENTS]; Sheet::AGENTS];
+    let mut suiting = [[false; Sheet::AGENTS]; Sheet::AGENTS];
     let mut i: usize = 0;
     while i < Sheet::AGENTS {
         let valuation = table[i];
-        suits[i] = suits_row(valuation, shares[i], terms, sets);
+        suiting[i] = suits_row(valuation, shares[i], terms, sets);
         i += 1;
     }
-    suits
+    suiting
 }

@@ -14,7 +14,7 @@ use Rattle.sheet.specs.Limits.{mostAgents, mostItems, InUse}
 use Rattle.sheet.specs.Answers.{accepted}
 use Rattle.sheet.specs.Sets.{setOf}
 use Rattle.sheet.specs.Valuations.{itemValue, valuesOf}
-use Rattle.sheet.specs.Tables.{valuation, allValues, profile}
+use Rattle.sheet.specs.Tables.{valuationOf, allValues, profile}
 use Rattle.sheet.proofs.sets.Ranges.{setOf-upTo}
 use Rattle.sheet.proofs.sets.Remainders.{values-all}
 use Rattle.sheet.specs.Contents.{sheetOf}
@@ -49,26 +49,26 @@ sharedAs shares cuts = record { answer = Shared; shares = padded mostAgents 0 sh
 module _ (n m : ℕ) (table : List (List ℕ)) where
   -- the cut of agent i
   abbrev pub cutAt : ℕ → Cut
-  cutAt i = cutOf (maximinPartition n (allValues m (valuation table i)))
+  cutAt i = cutOf (maximinPartition n (allValues m (valuationOf table i)))
 
   -- the value of all items to agent i
   abbrev pub totalOf : ℕ → ℕ
-  totalOf i = total (allValues m (valuation table i))
+  totalOf i = total (allValues m (valuationOf table i))
 
   -- the shares, the cuts and the test of refusal 9 by the agents' numbers
   pub shares-range : map (maximinShare n) (profile n m table) ≡ map (shareOf (sheetOf n m table)) (range 1 n)
   unfolding profile
-  shares-range = map-map (maximinShare n) (λ i. allValues m (valuation table i)) (range 1 n)
+  shares-range = map-map (maximinShare n) (λ i. allValues m (valuationOf table i)) (range 1 n)
 
   pub cuts-range : map cutOf (map (maximinPartition n) (profile n m table)) ≡ map cutAt (range 1 n)
   unfolding profile
   cuts-range =
-      let row : ℕ → List ℕ = λ i. allValues m (valuation table i) in
+      let row : ℕ → List ℕ = λ i. allValues m (valuationOf table i) in
       ap (map cutOf) (map-map (maximinPartition n) row (range 1 n)) ∙ map-map cutOf (λ i. maximinPartition n (row i)) (range 1 n)
 
   pub sharesCovered-range : sharesCovered n (profile n m table) ≡ all (λ i. leb (n * shareOf (sheetOf n m table) i) (totalOf i)) (range 1 n)
   unfolding sharesCovered profile
-  sharesCovered-range = all-map (λ values. leb (n * maximinShare n values) (total values)) (λ i. allValues m (valuation table i)) (range 1 n)
+  sharesCovered-range = all-map (λ values. leb (n * maximinShare n values) (total values)) (λ i. allValues m (valuationOf table i)) (range 1 n)
 
   pub outcome-each : outcome (accepted (map (cuttingOf n) (profile n m table))) ≡ sharedAs (map (maximinShare n) (profile n m table)) (map cutOf (map (maximinPartition n) (profile n m table)))
   outcome-each =

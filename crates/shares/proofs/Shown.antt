@@ -13,7 +13,7 @@ use Rattle.lists.specs.Sums.{total}
 use Rattle.lists.proofs.ranges.Ranges.{in-range}
 use Rattle.lists.proofs.members.Counting.{all-mem}
 use Rattle.sheet.specs.Limits.{within}
-use Rattle.sheet.specs.Tables.{valuation, allValues}
+use Rattle.sheet.specs.Tables.{valuationOf, allValues}
 use Rattle.sheet.proofs.Limits.{each-within}
 use Rattle.sheet.specs.Contents.{sheetOf}
 use Rattle.maximin.specs.Share.{leastBundle}
@@ -22,7 +22,7 @@ use Rattle.shares.specs.Shares.{shareOf}
 
 module _ (n m : ℕ) (table : List (List ℕ)) (share : ℕ) (partitions : List (List ℕ)) where
   abbrev values : ℕ → List ℕ
-  values agent = allValues m (valuation table agent)
+  values agent = allValues m (valuationOf table agent)
 
   -- the agent's partition has n bundles of that value, and these are all items
   abbrev pub shows : ℕ → Bool

@@ -7,7 +7,7 @@ use native.Mathlib.Omega.{arith}
 use lib.ListN.{replicate}
 use Rattle.lists.specs.Lists.{range, nth}
 use Rattle.lists.specs.Sums.{total}
-use Rattle.sheet.specs.Tables.{valuation, allValues}
+use Rattle.sheet.specs.Tables.{valuationOf, allValues}
 use Rattle.sheet.specs.ThreePlayers.{players}
 use Rattle.sheet.specs.Contents.{sheetOf}
 use Rattle.maximin.specs.Share.{bundleValue}
@@ -16,7 +16,7 @@ use Rattle.shares.proofs.Shown.{shares-shown}
 
 -- the values that player i puts on the twelve items
 abbrev values : ℕ → List ℕ
-values i = allValues 12 (valuation players i)
+values i = allValues 12 (valuationOf players i)
 
 -- a partition for each player: by the rows, and by the labels α β γ and + - * of the document
 abbrev pub partitionsShown : List (List ℕ)

@@ -7,7 +7,7 @@ use Rattle.lists.specs.Lists.{all}
 use Rattle.lists.specs.Sums.{total}
 use Rattle.sheet.specs.Limits.{agentsAllowed, itemsAllowed}
 use Rattle.sheet.specs.Answers.{Answer, accepted, require, andThen}
-use Rattle.sheet.specs.Tables.{valuation, allValues}
+use Rattle.sheet.specs.Tables.{valuationOf, allValues}
 use Rattle.sheet.specs.Contents.{Contents, valuationsOf}
 use Rattle.growth.specs.Growth.{growths}
 use Rattle.maximin.specs.Share.{maximinShare}
@@ -20,7 +20,7 @@ sharesCovered n valuations = all (λ values. leb (n * maximinShare n values) (to
 module _ (sheet : Contents) where
   -- "the share is over all pieces and as many piles as there are yards": of agent i, by its marks for all items
   abbrev pub shareOf : ℕ → ℕ
-  shareOf i = maximinShare (sheet .agents) (allValues (sheet .items) (valuation (sheet .table) i))
+  shareOf i = maximinShare (sheet .agents) (allValues (sheet .items) (valuationOf (sheet .table) i))
 
   -- the share of each agent
   abbrev pub sharesOf : List ℕ

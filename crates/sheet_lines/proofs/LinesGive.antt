@@ -9,7 +9,7 @@ use Rattle.sheet.specs.Limits.{greatestMark}
 use Rattle.tokens.specs.Tokens.{Token}
 use Rattle.tokeniser.specs.Places.{tokensAt}
 use Rattle.tokeniser.specs.declared.Cursor.{Cursor}
-use Rattle.tokeniser.proofs.Behind.{Leaves, place-leaves}
+use Rattle.tokeniser.proofs.Behind.{LeavesTokens, place-leaves}
 use Rattle.lexing.specs.Results.{answerFrom}
 use Rattle.lexing.proofs.readers.Suffixes.{LeavesEnd}
 use Rattle.sheet_lines.specs.Grammar as grammar
@@ -22,7 +22,7 @@ use Rattle.sheet_lines.specs.declared.body.Body.{Body}
 pub record Gives (s : List ℕ) (c : Cursor) (r : Body) (b : grammar.Body) (ts : List Token) : Type 0 where
   pub tested : r .allowed ≡ all (allowedRow greatestMark) (b .rows)
   pub filled : r .yards ≡ keptYards (b .rows)
-  pub leaves : Leaves s c ts (r .next)
+  pub leaves : LeavesTokens s c ts (r .next)
 
 module _ (s : List ℕ) (c : Cursor) (r : Body) where
   -- where the test says so, the lines were missed, or they were read

@@ -12,7 +12,7 @@ use Rattle.lexing.proofs.readers.Places.{ReadTo, read-to}
 use Rattle.lexing.proofs.readers.Answers.{Telling}
 use Rattle.sheet_lines.specs.Grammar.{head}
 use Rattle.sheet_lines.specs.Results.{headFrom}
-use Rattle.sheet_lines.specs.internal.Results.{unreadLine, readLine}
+use Rattle.sheet_lines.specs.internal.Results.{unreadMarks, readMarks}
 use Rattle.sheet_lines.specs.declared.head.Head as heads
 use Rattle.sheet_lines.proofs.Suffixes.{head-leaves}
 
@@ -40,5 +40,5 @@ module _ (s : List ℕ) (c : Cursor) where
   head-read told e = head-to (head (tokensAt s c)) (head-leaves (tokensAt s c)) told e
 
 -- a line tells whether it is read, and the place behind it
-abbrev pub lineTells : Telling unreadLine readLine
-lineTells = record { isRead = λ r. r .read; next = λ r. r .next; not-read = refl; is-read = λ marks next. refl; is-next = λ marks next. refl }
+abbrev pub marksTell : Telling unreadMarks readMarks
+marksTell = record { isRead = λ r. r .read; next = λ r. r .next; not-read = refl; is-read = λ marks next. refl; is-next = λ marks next. refl }

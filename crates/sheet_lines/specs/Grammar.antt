@@ -28,7 +28,7 @@ yardTurn turn ts₀ = do
   follow (form beforeMarks) ts₁
 
 -- the line of one yard: (yard 1 (marks 5 3 4))
-unfoldable pub yardLine : ℕ → ℕ → ℕ → List Token → Option (List ℕ × List Token)
+unfoldable pub yardLine : (digits items turn : ℕ) → List Token → Option (List ℕ × List Token)
 yardLine digits items turn ts₀ = do
   ts₁ ← yardTurn turn ts₀
   (row, ts₂) ← marks digits items ts₁
@@ -36,7 +36,7 @@ yardLine digits items turn ts₀ = do
   some (row, ts₃)
 
 -- "Then comes one line a yard, from yard 1 upward"
-abbrev pub yardLines : ℕ → ℕ → ℕ → List Token → Option (List (List ℕ) × List Token)
+abbrev pub yardLines : (digits agents items : ℕ) → List Token → Option (List (List ℕ) × List Token)
 yardLines digits agents items ts = inTurn (yardLine digits items) 1 agents ts
 
 -- what the lines between the first line and the line `(end)` carry
@@ -44,7 +44,7 @@ pub record Body : Type 0 where
   pub rows : List (List ℕ)
 
 -- the lines between the first line and the line `(end)`
-unfoldable pub body : ℕ → ℕ → ℕ → List Token → Option (Body × List Token)
+unfoldable pub body : (digits agents items : ℕ) → List Token → Option (Body × List Token)
 body digits agents items ts₀ = do
   (rows, ts₁) ← yardLines digits agents items ts₀
   some (record { rows = rows }, ts₁)

@@ -5,7 +5,7 @@ ghost use Rattle.sheet.specs.Limits.{mostItems, markDigits};
 ghost use Rattle.tokeniser.specs.Places.{tokensAt};
 ghost use Rattle.lexing.specs.Results.{followedFrom};
 ghost use Rattle.sheet_lines.specs.Grammar.{marks, yardTurn, yardLine};
-ghost use Rattle.sheet_lines.specs.internal.Results.{unreadLine, lineFrom};
+ghost use Rattle.sheet_lines.specs.internal.Results.{unreadMarks, marksFrom};
 use crate::forms::BEFORE_MARKS;
 use crate::forms::BEFORE_TURN;
 use crate::forms::LINE_END;
@@ -38,7 +38,7 @@ pub struct Line {
 
 // A line that is not as it should be.
 fn unread() -> Line
-    ensures { λ r. ⌜ r ≡ unreadLine ⌝ }
+    ensures { λ r. ⌜ r ≡ unreadMarks ⌝ }
 {
     Line {
         read: false,
@@ -51,7 +51,7 @@ fn unread() -> Line
 // As many marks as there are pieces.
 fn read_marks(s: &[u8], c: Cursor, items: usize) -> Line
     requires { ⌜ items ≤ mostItems ⌝ }
-    ensures { λ r. ⌜ r ≡ lineFrom (now (s .entry)) c (marks markDigits items (tokensAt (now (s .entry)) c)) ⌝ }
+    ensures { λ r. ⌜ r ≡ marksFrom (now (s .entry)) c (marks markDigits items (tokensAt (now (s .entry)) c)) ⌝ }
 {
     let mut row: Row = [0; Sheet::ITEMS];
     let mut allowed = true;
@@ -87,7 +87,7 @@ fn yard_in_turn(s: &[u8], c: Cursor, turn: usize) -> Followed
 // (yard 1 (marks 5 3 4))
 pub(crate) fn yard_line(s: &[u8], c: Cursor, turn: usize, items: usize) -> Line
     requires { ⌜ items ≤ mostItems ⌝ }
-    ensures { λ r. ⌜ r ≡ lineFrom (now (s .entry)) c (yardLine markDigits items turn (tokensAt (now (s .entry)) c)) ⌝ }
+    ensures { λ r. ⌜ r ≡ marksFrom (now (s .entry)) c (yardLine markDigits items turn (tokensAt (now (s .entry)) c)) ⌝ }
 {
     let Followed::At(c1) = yard_in_turn(s, c, turn) else {
         return unread();

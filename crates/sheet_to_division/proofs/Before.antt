@@ -6,7 +6,7 @@ use Prim.Native.Nat.{ℕ, _≤_}
 use Rattle.sheet.specs.Limits.{earlierMarkLimits}
 use Rattle.sheet.specs.Answers.{accepted}
 use Rattle.sheet.specs.Contents.{Contents}
-use Rattle.reading.specs.Reading.{readingWithin}
+use Rattle.reading.specs.Reading.{readingBy}
 use Rattle.reading.proofs.WiderMarks.{accepted-before, answered-as-before}
 use Rattle.shares.specs.Shares.{standardAllowance}
 use Rattle.printing.specs.Printing.{longestPrinted}
@@ -15,8 +15,8 @@ use Rattle.sheet_to_division.specs.PrintedDivision.{printedInto}
 use Rattle.sheet_to_division.specs.ShareOut.{shareOut, shareOutBefore}
 use Rattle.sheet_to_division.proofs.Accepted.{no-sheet-lost}
 
-module _ (text : List ℕ) (sheet : Contents) (read : readingWithin earlierMarkLimits text ≡ accepted sheet) where
-  pub accepted-before-divides-alike : (allowance : ℕ) → dividedFrom text allowance ≡ dividedBy (readingWithin earlierMarkLimits) text allowance
+module _ (text : List ℕ) (sheet : Contents) (read : readingBy earlierMarkLimits text ≡ accepted sheet) where
+  pub accepted-before-divides-alike : (allowance : ℕ) → dividedFrom text allowance ≡ dividedBy (readingBy earlierMarkLimits) text allowance
   unfolding dividedFrom
   accepted-before-divides-alike allowance = answered-as-before (withDivision allowance) text sheet read
 

@@ -3,7 +3,7 @@ use mathlib.Core.List.{List}
 use Prim.Native.Nat.{ℕ}
 use Rattle.sheet.specs.Limits.{earlierMarkLimits}
 use Rattle.sheet.specs.Answers.{Answer}
-use Rattle.reading.specs.Reading.{readingWithin}
+use Rattle.reading.specs.Reading.{readingBy}
 use Rattle.sheet_to_division.specs.DividedFrom.{dividedBy, dividedFrom}
 use Rattle.sheet_to_division.specs.PrintedDivision.{printedInto}
 
@@ -15,4 +15,4 @@ shareOut text allowance room = printedInto room (dividedFrom text allowance)
 -- "Sheets accepted before divide as they did" (document 02, order 3): what a text and a lent buffer were answered before, when a mark went to
 -- 65,535 in five digits
 abbrev pub shareOutBefore : List ℕ → ℕ → ℕ → Answer (List ℕ)
-shareOutBefore text allowance room = printedInto room (dividedBy (readingWithin earlierMarkLimits) text allowance)
+shareOutBefore text allowance room = printedInto room (dividedBy (readingBy earlierMarkLimits) text allowance)

@@ -11,7 +11,7 @@ use Rattle.sheet.specs.Contents.{Contents, contents}
 use Rattle.tokens.specs.Tokens.{Token}
 use Rattle.tokeniser.specs.Places.{tokensAt}
 use Rattle.reading.specs.Reading.{sheetAlone, readingFront}
-use Rattle.reading.specs.Outcome.{outcome, tableIn, frontFrom}
+use Rattle.reading.specs.Outcome.{outcome as readingOutcome, tableIn, frontFrom}
 use Rattle.reading.specs.declared.Answer.the-variants.{Refused, Accepted}
 use Rattle.reading.specs.declared.Front.{Front}
 use Rattle.tokeniser.specs.declared.Cursor.{Cursor}
@@ -25,19 +25,19 @@ readingFront-counts text c behind e =
     let a = front-passes text c behind e in
     counts-within (c .agents) (c .items) (a .agents-within) (a .items-within)
 
-refused-of : (a : Answer (Contents × List Token)) (number : ℕ) → outcome (sheetAlone a) .answer ≡ Refused number → a ≡ refused number
+refused-of : (a : Answer (Contents × List Token)) (number : ℕ) → readingOutcome (sheetAlone a) .answer ≡ Refused number → a ≡ refused number
 refused-of (refused k) number e = cc
 refused-of (accepted p) number e = cc
 
 -- a sheet that is accepted is what was read, with what stands behind it
-accepted-of : (s : List ℕ) (place : Cursor) (a : Answer (Contents × List Token)) {counts : Sheet} → outcome (sheetAlone a) .answer ≡ Accepted counts
+accepted-of : (s : List ℕ) (place : Cursor) (a : Answer (Contents × List Token)) {counts : Sheet} → readingOutcome (sheetAlone a) .answer ≡ Accepted counts
     → ((sheet : Contents) (ts : List Token) → a ≡ accepted (sheet, ts) → tokensAt s place ≡ ts)
-    → a ≡ accepted (contents counts (tableIn (outcome (sheetAlone a) .rows)), tokensAt s place)
+    → a ≡ accepted (contents counts (tableIn (readingOutcome (sheetAlone a) .rows)), tokensAt s place)
 accepted-of s place (refused k) e left = let z : _≡_ {A = ℕ} 0 1 = cc in absurd (omega arith)
 accepted-of s place (accepted (sheet, ts)) e left = ap₂ (λ c t. accepted (c, t)) (accepted-contents sheet e) (sym (left sheet ts refl))
 
 module _ (text : List ℕ) {front : Front} (read : front ≡ frontFrom text (readingFront text)) where
-  outcome-read : front .outcome ≡ outcome (sheetAlone (readingFront text))
+  outcome-read : front .outcome ≡ readingOutcome (sheetAlone (readingFront text))
   outcome-read = ap (λ f. f .outcome) read ∙ front-outcome text (readingFront text)
 
   tokens-left : (sheet : Contents) (ts : List Token) → readingFront text ≡ accepted (sheet, ts) → tokensAt text (front .next) ≡ ts

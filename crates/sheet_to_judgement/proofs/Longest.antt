@@ -12,10 +12,10 @@ use Rattle.lists.specs.Lists.{range, nth}
 use Rattle.lists.proofs.ranges.Ranges.{range-bounds, nth-mem, nth-map-range}
 use Rattle.sheet.specs.Limits.{sumDigits}
 use Rattle.sheet.specs.Valuations.{value}
-use Rattle.sheet.specs.Tables.{valuation}
+use Rattle.sheet.specs.Tables.{valuationOf}
 use Rattle.sheet.specs.Contents.{Contents, valuationsOf}
 use Rattle.sheet.specs.Answers.{accepted, andThen}
-use Rattle.sheet.proofs.valuing.Tables.{valuation-profile}
+use Rattle.sheet.proofs.valuing.Tables.{valuationOf-profile}
 use Rattle.shares.specs.Shares.{sharesOf}
 use Rattle.shares.proofs.Profile.{nth-shares}
 use Rattle.writing.specs.Filled.{filling}
@@ -55,8 +55,8 @@ module _ (sheet : Contents) (terms : Terms) (small : SmallTerms terms) (d : Stat
     worth-is : nth 0 (ownValues (sheet .agents) (valuationsOf sheet) (bundlesOf d)) i ≡ lineOf d i .worth
     worth-is =
         let b = range-bounds 1 (sheet .agents) in-use in
-        nth-map-range (λ k. value (valuation (valuationsOf sheet) k) (nth [] (bundlesOf d) k)) 0 (sheet .agents) in-use
-        ∙ ap₂ value (valuation-profile (sheet .agents) (sheet .items) (sheet .table) in-use) (List·getD-map (λ l. l .bundle) (d .lines) (i - 1) noneStated)
+        nth-map-range (λ k. value (valuationOf (valuationsOf sheet) k) (nth [] (bundlesOf d) k)) 0 (sheet .agents) in-use
+        ∙ ap₂ value (valuationOf-profile (sheet .agents) (sheet .items) (sheet .table) in-use) (List·getD-map (λ l. l .bundle) (d .lines) (i - 1) noneStated)
         ∙ sym (t .worth-true i (b .0) (omega arith))
 
     share-is : nth 0 (sharesOf sheet) i ≡ lineOf d i .share

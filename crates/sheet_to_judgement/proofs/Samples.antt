@@ -56,7 +56,7 @@ unfolding readingFront contentsOf sheet.endLine sheet.body sheet.yardLine sheet.
 sheet-c-read = refl
 
 division-c-read : division.divisionText 3 4 (tokens divisionC) ≡ some statedC
-unfolding division.divisionText division.head division.amounts division.yardLine division.bundleInTurn division.bundleAfter division.risingItems sheet.endLine numbers.numberAfter numbers.number numbers.digitsAfter numbers.isNumber forms.inTurn forms.follow onFirst lines beforeRemark extended words lineTokens tokens flatMap
+unfolding division.divisionText division.divisionHead division.statedAmounts division.divisionLine division.bundleInTurn division.bundleAfter division.risingItems sheet.endLine numbers.numberAfter numbers.number numbers.digitsAfter numbers.isNumber forms.inTurn forms.follow onFirst lines beforeRemark extended words lineTokens tokens flatMap
 division-c-read = refl
 
 division-c-judged : judging contentsC (some statedC) ≡ accepted marginsC

@@ -10,12 +10,12 @@ use Rattle.sheet.specs.Limits.{mostAgents, mostItems}
 use Rattle.sheet.specs.Sets.{itemsOf, setOf}
 use Rattle.tokens.specs.Tokens.{Token}
 use Rattle.division_reading.specs.Stated.{StatedLine, Stated}
-use Rattle.division_reading.specs.Grammar.{divisionText, divisionWithin}
+use Rattle.division_reading.specs.Grammar.{divisionText, readingDivision}
 use Rattle.division_reading.specs.Outcome.{keptLine, blankLine, kept}
 use Rattle.division_reading.specs.Shape.{WellFormed}
 use Rattle.division_reading.proofs.Bundles.{items-of-bundle, items-of-bundles}
 use Rattle.division_reading.proofs.Shape.{division-shape}
-use Rattle.division_reading.proofs.kept.Division.{divisionWithin-text}
+use Rattle.division_reading.proofs.kept.Division.{readingDivision-text}
 use Rattle.stated_truth.specs.Lines.{statedLine, statedIn}
 
 -- the entries of a list in more places, from the first on
@@ -47,5 +47,5 @@ module _ (n m : ℕ) (few-items : m ≤ mostItems) where
   read-back ts none e = refl
   read-back ts (some d) e = kept-back d (division-shape n m ts d e)
 
-  pub stated-kept : n ≤ mostAgents → (ts : List Token) → statedIn n (kept (divisionWithin n m ts)) ≡ divisionText n m ts
-  stated-kept few ts = ap (λ o. statedIn n (kept o)) (divisionWithin-text n m ts few few-items) ∙ read-back ts (divisionText n m ts) refl
+  pub stated-kept : n ≤ mostAgents → (ts : List Token) → statedIn n (kept (readingDivision n m ts)) ≡ divisionText n m ts
+  stated-kept few ts = ap (λ o. statedIn n (kept o)) (readingDivision-text n m ts few few-items) ∙ read-back ts (divisionText n m ts) refl

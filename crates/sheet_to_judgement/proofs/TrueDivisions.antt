@@ -11,12 +11,12 @@ use Rattle.lists.proofs.ranges.Ranges.{in-range}
 use Rattle.sheet.specs.Limits.{greatestMark, sumDigits, longestText}
 use Rattle.sheet.specs.Answers.{accepted}
 use Rattle.sheet.specs.Valuations.{itemValue}
-use Rattle.sheet.specs.Tables.{valuation}
+use Rattle.sheet.specs.Tables.{valuationOf}
 use Rattle.sheet.specs.Contents.{Contents, valuationsOf}
 use Rattle.sheet.proofs.valuing.Tables.{value-allValues, value-small}
 use Rattle.tokens.specs.Tokens.{tokens}
 use Rattle.reading.proofs.SmallMarks.{table-small}
-use Rattle.strict_text.specs.StrictText.{strictText, inUse}
+use Rattle.strict_text.specs.StrictText.{strictText, rowsInUse}
 use Rattle.strict_text.specs.WithinLimits.{WithinLimits}
 use Rattle.strict_text.proofs.TextLength.{length-strictText}
 use Rattle.strict_text.proofs.AtFront.{strictText-at-front}
@@ -38,8 +38,8 @@ use Rattle.sheet_to_judgement.proofs.Theorems.{accepted-exactly-if-true
 
 -- a sheet within the limits, and a division of it, all of which is true by some terms
 module _ (sheet : Contents) (w : WithinLimits sheet) (d : Stated) (shape : WellFormed (sheet .agents) (sheet .items) d) {terms : Terms} (t : AllTrue sheet terms d) where
-  marks-small : (i k : ℕ) → itemValue (valuation (sheet .table) i) k ≤ greatestMark
-  marks-small = table-small (inUse (sheet .agents) (sheet .items) (sheet .table)) (sheet .table) (w .blank-beyond) (w .marks-allowed)
+  marks-small : (i k : ℕ) → itemValue (valuationOf (sheet .table) i) k ≤ greatestMark
+  marks-small = table-small (rowsInUse (sheet .agents) (sheet .items) (sheet .table)) (sheet .table) (w .blank-beyond) (w .marks-allowed)
 
   -- what is true of the figures of each line is true of each line that is there
   each-line : (P : StatedLine → Type 0) → ((i : ℕ) → 1 ≤ i → i ≤ sheet .agents → P (lineOf d i)) → (l : StatedLine) → Mem l (d .lines) → P l
@@ -52,7 +52,7 @@ module _ (sheet : Contents) (w : WithinLimits sheet) (d : Stated) (shape : WellF
   true-few-digits =
       let n = sheet .agents in
       let m = sheet .items in
-      let row : ℕ → List ℕ = valuation (sheet .table) in
+      let row : ℕ → List ℕ = valuationOf (sheet .table) in
       record {
         grade-below = omega (arith, t .grade-true, grade-bounds n (valuationsOf sheet) (sharesOf sheet) (marginsByTerms sheet terms (bundlesOf d)) (bundlesOf d));
         worth-below = each-line (λ l. l .worth < 10 ^ sumDigits) (λ i lo hi.

@@ -7,7 +7,7 @@ ghost use Rattle.writing.specs.Answered.{answered};
 ghost use Rattle.writing.specs.Filled.{filled};
 ghost use Rattle.stated_truth.specs.Lines.{statedIn};
 ghost use Rattle.sheet_to_judgement.specs.TextJudged.{judgementFrom};
-ghost use Rattle.sheet_to_judgement.specs.internal.Printing.{printing};
+ghost use Rattle.sheet_to_judgement.specs.internal.Printing.{printingJudgement};
 use crate::accepted::print_margins;
 use division_reading::Stated;
 use division_reading::read_division;
@@ -20,8 +20,8 @@ pub mod accepted;
 
 // Judges a division of a sheet and prints the margins; refused as by `judge`, else with 10 where the buffer is shorter than the text.
 fn print_judged(table: Table, sheet: Sheet, stated: Stated, buffer: &mut [u8]) -> Answer
-    ensures answer { λ r. ⌜ r ≡ answered (printing (contents sheet table) (statedIn (sheet .agents) stated) (length (now (buffer .entry)))) ⌝ }
-    ensures buffer { λ _. ⌜ now (buffer .exit) ≡ after filled (printing (contents sheet table) (statedIn (sheet .agents) stated) (length (now (buffer .entry)))) (now (buffer .entry)) ⌝ }
+    ensures answer { λ r. ⌜ r ≡ answered (printingJudgement (contents sheet table) (statedIn (sheet .agents) stated) (length (now (buffer .entry)))) ⌝ }
+    ensures buffer { λ _. ⌜ now (buffer .exit) ≡ after filled (printingJudgement (contents sheet table) (statedIn (sheet .agents) stated) (length (now (buffer .entry)))) (now (buffer .entry)) ⌝ }
 {
     let judged = judge(table, sheet, stated);
     let answer = judged.answer;

@@ -31,10 +31,10 @@ unfoldable pub cutTokens : List (List ℕ) → List Token
 cutTokens cut = flatMap (bundleTokens beforeCutPile) cut
 
 -- the tokens of a yard line
-unfoldable pub lineTokens : ℕ → StatedLine → List Token
-lineTokens turn l =
+unfoldable pub divisionLineTokens : ℕ → StatedLine → List Token
+divisionLineTokens turn l =
     fieldTokens beforeTurn turn ++ bundleTokens beforePile (l .bundle) ++ amountsTokens (l .worth) (l .share) ++ cutTokens (l .cut) ++ form lineEnd
 
 -- the tokens of a division
 unfoldable pub divisionTokens : ℕ → ℕ → Stated → List Token
-divisionTokens agents items d = headTokens agents items (d .grade) ++ flatMap (λ i. lineTokens i (lineOf d i)) (range 1 agents) ++ form lastLine
+divisionTokens agents items d = headTokens agents items (d .grade) ++ flatMap (λ i. divisionLineTokens i (lineOf d i)) (range 1 agents) ++ form lastLine

@@ -7,19 +7,19 @@ use Rattle.lists.specs.Lists.{range}
 use Rattle.text.specs.Bytes.{bytes}
 use Rattle.text.specs.Decimal.{decimal, spacedNumber}
 use Rattle.tokens.specs.Lines.{space, lines, onFirst, beforeRemark}
-use Rattle.tokens.specs.Tokens.{Token, opening, closing, isBracket, extended, words, lineTokens as tokensOfLine, tokens}
+use Rattle.tokens.specs.Tokens.{Token, opening, closing, isBracket, extended, words, lineTokens, tokens}
 use Rattle.lexing.specs.Forms.{form}
 use Rattle.tokens.proofs.texts.Parts.{begunAfter, noRemark, Lexes, lexed-tokens, _then_, nothing-lexed, space-lexed, bracketed-lexed}
 use Rattle.lexing.proofs.texts.Numbers.{number-lexed, numbers-lexed, bracket-number-lexed, parts-lexed}
 use Rattle.writing.specs.Fields.{field, group}
 use Rattle.sheet_lines.specs.SheetForms.{beforeItems, beforeTurn, lineEnd}
 use Rattle.strict_text.proofs.SheetLexed.{line-end-lexed, last-line-lexed}
-use Rattle.printed_lines.specs.PrintedLines.{headLine, pileGroup, amounts, cutPile, cutGroup, yardLine, allLines}
+use Rattle.printed_lines.specs.PrintedLines.{headLine, pileGroup, worthAndShare, cutPile, cutGroup, printedYard, allLines}
 use Rattle.division_reading.specs.DivisionForms.{beforeCounts, beforeGrade, beforePile, beforeWorth, beforeShare, beforeCut, beforeCutPile, pileEnd}
 use Rattle.division_reading.specs.Stated.{StatedLine, Stated}
 use Rattle.stated_truth.specs.Truth.{lineOf}
 use Rattle.stated_text.specs.StatedText.{lineText, statedText}
-use Rattle.stated_text.proofs.DivisionTokens.{fieldTokens, headTokens, bundleTokens, amountsTokens, cutTokens, lineTokens, divisionTokens}
+use Rattle.stated_text.proofs.DivisionTokens.{fieldTokens, headTokens, bundleTokens, amountsTokens, cutTokens, divisionLineTokens, divisionTokens}
 
 -- a text that begins with a bracket and goes on without a remark on its line, and a number behind it
 field-lexed : {begun : Bool} (b : ℕ) (x : List ℕ) (n : ℕ) → isBracket b ≡ true → noRemark x ≡ true → begunAfter true x ≡ true
@@ -48,7 +48,7 @@ pile-lexed pile = spaced-lexed (bracketed-lexed opening (bytes "pile") refl refl
 
 -- the bracket that a pile of a cut begins with
 opening-form : form beforeCutPile ≡ (opening ∷ []) ∷ []
-unfolding tokens tokensOfLine words extended lines onFirst beforeRemark flatMap
+unfolding tokens lineTokens words extended lines onFirst beforeRemark flatMap
 opening-form = refl
 
 group-lexed : (pile : List ℕ) → Lexes true (space ∷ group pile) (bundleTokens beforeCutPile pile) true
@@ -57,8 +57,8 @@ group-lexed [] = spaced-lexed (bracketed-lexed opening [] refl refl then nothing
 group-lexed (k ∷ ks) =
     rw opening-form (spaced-lexed (bracket-number-lexed opening k refl then numbers-lexed ks then closing-lexed))
 
-amounts-lexed : (worth share : ℕ) → Lexes true (amounts worth share) (fieldTokens beforeWorth worth ++ fieldTokens beforeShare share ++ form pileEnd) true
-unfolding amounts begunAfter
+amounts-lexed : (worth share : ℕ) → Lexes true (worthAndShare worth share) (fieldTokens beforeWorth worth ++ fieldTokens beforeShare share ++ form pileEnd) true
+unfolding worthAndShare begunAfter
 amounts-lexed worth share =
     let worth-lexed : Lexes true (field " (worth " worth) (fieldTokens beforeWorth worth) true = spaced-lexed (field-lexed opening (bytes "worth") worth refl refl refl) in
     let share-lexed : Lexes true (field ") (share " share) (fieldTokens beforeShare share) true = field-lexed closing (bytes " (share") share refl refl refl in
@@ -73,23 +73,23 @@ cut-lexed cut =
 
 -- brackets of one part and of the next, in one form
 cut-form : form beforeCut ≡ form pileEnd ++ form "(cut"
-unfolding tokens tokensOfLine words extended lines onFirst beforeRemark flatMap
+unfolding tokens lineTokens words extended lines onFirst beforeRemark flatMap
 cut-form = refl
 
 line-end-form : form lineEnd ≡ form pileEnd ++ form ")\n"
-unfolding tokens tokensOfLine words extended lines onFirst beforeRemark flatMap
+unfolding tokens lineTokens words extended lines onFirst beforeRemark flatMap
 line-end-form = refl
 
 -- the parts of a yard line as they are printed, and as they are read
 line-parts : (turn : ℕ) (l : StatedLine)
     → fieldTokens beforeTurn turn ++ bundleTokens beforePile (l .bundle) ++ (fieldTokens beforeWorth (l .worth) ++ fieldTokens beforeShare (l .share) ++ form pileEnd)
     ++ (form "(cut" ++ cutTokens (l .cut) ++ form pileEnd) ++ form ")\n"
-    ≡ lineTokens turn l
-unfolding lineTokens amountsTokens
+    ≡ divisionLineTokens turn l
+unfolding divisionLineTokens amountsTokens
 line-parts turn l = simp (append-assoc, cut-form, line-end-form)
 
-line-lexed : (agent : ℕ) (l : StatedLine) → Lexes false (lineText agent l) (lineTokens agent l) false
-unfolding yardLine begunAfter
+line-lexed : (agent : ℕ) (l : StatedLine) → Lexes false (lineText agent l) (divisionLineTokens agent l) false
+unfolding printedYard begunAfter
 line-lexed agent l =
     let agent-lexed : Lexes false (field "(yard " agent) (fieldTokens beforeTurn agent) true = field-lexed opening (bytes "yard") agent refl refl refl in
     let last-lexed : Lexes true (bytes ")\n") (form ")\n") false = bracketed-lexed closing (bytes "\n") refl refl in
@@ -102,7 +102,7 @@ module _ (agents items : ℕ) (d : Stated) where
   division-lexed =
       rw append-nil
       (head-lexed agents items (d .grade)
-      then parts-lexed (λ i. lineText i (lineOf d i)) (λ i. lineTokens i (lineOf d i)) (range 1 agents) (λ i m. line-lexed i (lineOf d i))
+      then parts-lexed (λ i. lineText i (lineOf d i)) (λ i. divisionLineTokens i (lineOf d i)) (range 1 agents) (λ i m. line-lexed i (lineOf d i))
       then last-line-lexed)
 
   pub tokens-statedText : tokens (statedText agents items d) ≡ divisionTokens agents items d

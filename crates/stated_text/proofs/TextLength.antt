@@ -11,7 +11,7 @@ use Rattle.lists.specs.Sums.{total, sumOver}
 use Rattle.lists.proofs.ranges.Ranges.{range-bounds}
 use Rattle.text.proofs.Spaced.{spaced}
 use Rattle.sheet.specs.Limits.{mostAgents, mostItems, sumDigits}
-use Rattle.printed_lines.proofs.Lengths.{length-cutGroup, sumOver-spaced-items, length-yardLine, length-allLines}
+use Rattle.printed_lines.proofs.Lengths.{length-cutGroup, sumOver-spaced-items, length-printedYard, length-allLines}
 use Rattle.division_reading.specs.Stated.{Stated}
 use Rattle.stated_truth.specs.Truth.{lineOf}
 use Rattle.division_reading.specs.Shape.{WellFormed, FewDigits}
@@ -41,7 +41,7 @@ module _ (n m : ℕ) (d : Stated) (few : n ≤ mostAgents) (few-items : m ≤ mo
       let l = lineOf d i in
       omega (
         arith,
-        length-yardLine m few-items (line-bundle n m d shape in-use) i (l .worth) (l .share) (l .cut) (omega arith) (small .worth-below l (line-mem n m d shape in-use)) (small .share-below l (line-mem n m d shape in-use)),
+        length-printedYard m few-items (line-bundle n m d shape in-use) i (l .worth) (l .share) (l .cut) (omega arith) (small .worth-below l (line-mem n m d shape in-use)) (small .share-below l (line-mem n m d shape in-use)),
         length-cutGroup (l .cut),
         line-cut-each n m d shape in-use,
         cut-items m few-items (l .cut) (line-cut-bundle n m d shape in-use),

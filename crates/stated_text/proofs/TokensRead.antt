@@ -16,22 +16,22 @@ use Rattle.lists.proofs.members.Counting.{sublist-mem}
 use Rattle.text.specs.Decimal.{decimal}
 use Rattle.sheet.specs.Limits.{mostAgents, mostItems, countDigits, sumDigits}
 use Rattle.tokens.specs.Lines.{lines, onFirst, beforeRemark}
-use Rattle.tokens.specs.Tokens.{Token, closing, extended, words, lineTokens as tokensOfLine, tokens}
+use Rattle.tokens.specs.Tokens.{Token, closing, extended, words, lineTokens, tokens}
 use Rattle.lexing.specs.Forms.{ended, follow, form, inTurn}
 use Rattle.lexing.specs.Numbers.{isNumber}
 use Rattle.numerals.proofs.DecimalDigits.{decimal-value, decimal-isNumber}
-use Rattle.lexing.proofs.readers.Written.{follow-append, numberAfter-decimal, followNumber-decimal, inTurn-range}
+use Rattle.lexing.proofs.readers.ReadBack.{follow-append, numberAfter-decimal, followNumber-decimal, inTurn-range}
 use Rattle.sheet_lines.specs.SheetForms.{beforeItems, beforeTurn, lineEnd, lastLine}
 use Rattle.sheet_lines.specs.Grammar.{endLine}
 use Rattle.division_reading.specs.DivisionForms.{beforeCounts, beforeGrade, beforePile, beforeWorth, beforeShare, beforeCut, beforeCutPile, pileEnd}
 use Rattle.division_reading.specs.Stated.{StatedLine, Stated}
-use Rattle.division_reading.specs.Grammar.{gradeDigits, risingItems, bundleAfter, bundleInTurn, amounts, cutBundles, yardLine, head, divisionText}
+use Rattle.division_reading.specs.Grammar.{gradeDigits, risingItems, bundleAfter, bundleInTurn, statedAmounts, cutBundles, divisionLine, divisionHead, divisionText}
 use Rattle.stated_truth.specs.Truth.{noneStated, lineOf}
-use Rattle.stated_text.proofs.DivisionTokens.{headTokens, bundleTokens, amountsTokens, cutTokens, lineTokens, divisionTokens}
+use Rattle.stated_text.proofs.DivisionTokens.{headTokens, bundleTokens, amountsTokens, cutTokens, divisionLineTokens, divisionTokens}
 
 -- the bracket behind the items of a bundle, which is no number
 closing-form : form pileEnd ≡ (closing ∷ []) ∷ []
-unfolding tokens tokensOfLine words extended lines onFirst beforeRemark flatMap
+unfolding tokens lineTokens words extended lines onFirst beforeRemark flatMap
 closing-form = refl
 
 closing-no-number : isNumber countDigits (closing ∷ []) ≡ false
@@ -77,10 +77,10 @@ module _ (items : ℕ) (few-items : items ≤ mostItems) where
   cutBundles-cutTokens turn (b ∷ cut) ts s =
       simp append-assoc (rw (bundleAfter-bundleTokens beforeCutPile _ (s b (here refl)), cutBundles-cutTokens (turn + 1) cut ts (λ c m. s c (there m))))
 
-amounts-amountsTokens : (worth share : ℕ) (ts : List Token) → worth < 10 ^ sumDigits → share < 10 ^ sumDigits
-    → amounts (amountsTokens worth share ++ ts) ≡ some (worth, share, ts)
-unfolding amounts amountsTokens
-amounts-amountsTokens worth share ts small small-share =
+statedAmounts-amountsTokens : (worth share : ℕ) (ts : List Token) → worth < 10 ^ sumDigits → share < 10 ^ sumDigits
+    → statedAmounts (amountsTokens worth share ++ ts) ≡ some (worth, share, ts)
+unfolding statedAmounts amountsTokens
+statedAmounts-amountsTokens worth share ts small small-share =
     simp append-assoc
     (rw (numberAfter-decimal sumDigits worth (omega arith) small (form beforeWorth), numberAfter-decimal sumDigits share (omega arith) small-share (form beforeShare), follow-append (form beforeCut) ts))
 
@@ -93,18 +93,18 @@ pub record ReadableLine (agents items : ℕ) (l : StatedLine) : Type 0 where
   pub cut-of-items : (b : List ℕ) → Mem b (l .cut) → Sublist b (range 1 items)
 
 module _ (agents items : ℕ) (few : agents ≤ mostAgents) (few-items : items ≤ mostItems) where
-  yardLine-lineTokens : (turn : ℕ) {l : StatedLine} (ts : List Token) → turn < 10 ^ countDigits → ReadableLine agents items l
-      → yardLine agents items turn (lineTokens turn l ++ ts) ≡ some (l, ts)
-  unfolding yardLine lineTokens
-  yardLine-lineTokens turn {l} ts h p =
+  divisionLine-divisionLineTokens : (turn : ℕ) {l : StatedLine} (ts : List Token) → turn < 10 ^ countDigits → ReadableLine agents items l
+      → divisionLine agents items turn (divisionLineTokens turn l ++ ts) ≡ some (l, ts)
+  unfolding divisionLine divisionLineTokens
+  divisionLine-divisionLineTokens turn {l} ts h p =
       let cut-read : (us : List Token) → cutBundles agents items (cutTokens (l .cut) ++ us) ≡ some (l .cut, us) =
       λ us. rw (p .cut-each) at (cutBundles-cutTokens items few-items 1 (l .cut) us (p .cut-of-items)) in
       simp append-assoc
-      (rw (bundleInTurn-tokens items few-items turn _ h (p .of-items), amounts-amountsTokens (l .worth) (l .share) _ (p .worth-small) (p .share-small), cut-read _, follow-append (form lineEnd) ts))
+      (rw (bundleInTurn-tokens items few-items turn _ h (p .of-items), statedAmounts-amountsTokens (l .worth) (l .share) _ (p .worth-small) (p .share-small), cut-read _, follow-append (form lineEnd) ts))
 
-  head-headTokens : (grade : ℕ) (ts : List Token) → grade < 10 ^ gradeDigits → head agents items (headTokens agents items grade ++ ts) ≡ some (grade, ts)
-  unfolding head headTokens
-  head-headTokens grade ts small =
+  divisionHead-headTokens : (grade : ℕ) (ts : List Token) → grade < 10 ^ gradeDigits → divisionHead agents items (headTokens agents items grade ++ ts) ≡ some (grade, ts)
+  unfolding divisionHead headTokens
+  divisionHead-headTokens grade ts small =
       simp append-assoc
       (rw (followNumber-decimal countDigits agents (omega arith) (omega arith) (form beforeCounts), followNumber-decimal countDigits items (omega arith) (omega arith) (form beforeItems), numberAfter-decimal gradeDigits grade (omega arith) small (form beforeGrade), follow-append (form lineEnd) ts))
 
@@ -114,6 +114,6 @@ module _ (agents items : ℕ) (few : agents ≤ mostAgents) (few-items : items �
   unfolding divisionText divisionTokens
   divisionText-divisionTokens d line-each small readable =
       let lines-read =
-      inTurn-range (yardLine agents items) (lineOf d) (λ i. lineTokens i (lineOf d i)) 1 agents (form lastLine)
-      (λ i m us. let b = range-bounds 1 agents m in yardLine-lineTokens i us (omega arith) (readable i m)) in
-      simp append-assoc (rw (head-headTokens (d .grade) _ small, lines-read, endLine-form, map-nth-range noneStated (d .lines) agents line-each))
+      inTurn-range (divisionLine agents items) (lineOf d) (λ i. divisionLineTokens i (lineOf d i)) 1 agents (form lastLine)
+      (λ i m us. let b = range-bounds 1 agents m in divisionLine-divisionLineTokens i us (omega arith) (readable i m)) in
+      simp append-assoc (rw (divisionHead-headTokens (d .grade) _ small, lines-read, endLine-form, map-nth-range noneStated (d .lines) agents line-each))

@@ -2,13 +2,13 @@
 -- the box prints. Assumes nothing: these are definitions.
 use mathlib.Core.List.{List, []}
 use Prim.Native.Nat.{ℕ}
-use Rattle.printed_lines.specs.PrintedLines.{yardLine, allLines}
+use Rattle.printed_lines.specs.PrintedLines.{printedYard, allLines}
 use Rattle.division_reading.specs.Stated.{StatedLine, Stated}
 use Rattle.stated_truth.specs.Truth.{lineOf}
 
 -- the line of agent (yard) i
 abbrev pub lineText : ℕ → StatedLine → List ℕ
-lineText i l = yardLine i (l .bundle) (l .worth) (l .share) (l .cut)
+lineText i l = printedYard i (l .bundle) (l .worth) (l .share) (l .cut)
 
 -- so many agents (yards) and items (pieces): the head, a line for each agent, and no cutters line before the end
 unfoldable pub statedText : ℕ → ℕ → Stated → List ℕ

@@ -9,7 +9,7 @@ use Rattle.lists.specs.Lists.{range, nth, all}
 use Rattle.lists.specs.Sums.{leastOf}
 use Rattle.sheet.specs.Sets.{itemsOf}
 use Rattle.sheet.specs.Valuations.{value}
-use Rattle.sheet.specs.Tables.{valuation, allValues}
+use Rattle.sheet.specs.Tables.{valuationOf, allValues}
 use Rattle.division_reading.specs.Stated.{StatedLine, Stated}
 use Rattle.division_reading.specs.declared.StatedLine as line
 use Rattle.division_reading.specs.declared.Stated as stated
@@ -50,7 +50,7 @@ module _ (n m : ℕ) where
 
   -- whether all lines are true, by the agents' valuations and shares
   abbrev pub linesTrue : List (List ℕ) → List ℕ → List line.StatedLine → Bool
-  linesTrue table shares lines = all (λ i. lineTrueTo (valuation table i) (nth 0 shares i) (statedLine n (nth noLine lines i))) (range 1 n)
+  linesTrue table shares lines = all (λ i. lineTrueTo (valuationOf table i) (nth 0 shares i) (statedLine n (nth noLine lines i))) (range 1 n)
 
   -- whether all lines are true, and the grade that is stated is the grade
   abbrev pub figuresTrueBy : List (List ℕ) → List ℕ → List line.StatedLine → ℕ → ℕ → Bool

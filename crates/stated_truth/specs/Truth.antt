@@ -9,7 +9,7 @@ use Rattle.lists.specs.Lists.{range, nth, all, count, elem}
 use Rattle.lists.specs.Sums.{leastOf}
 use Rattle.sheet.specs.Limits.{within}
 use Rattle.sheet.specs.Valuations.{value}
-use Rattle.sheet.specs.Tables.{valuation, allValues}
+use Rattle.sheet.specs.Tables.{valuationOf, allValues}
 use Rattle.sheet.specs.Contents.{Contents}
 use Rattle.sheet.specs.Allocations.{Allocates}
 use Rattle.shares.specs.Shares.{shareOf}
@@ -44,7 +44,7 @@ eachInOne m bundles = all (λ k. eqb (count (elem k) bundles) 1) (range 1 m)
 module _ (sheet : Contents) where
   -- the value (worth) of a bundle by agent i's marks
   abbrev pub worthTo : ℕ → List ℕ → ℕ
-  worthTo i bundle = value (allValues (sheet .items) (valuation (sheet .table) i)) bundle
+  worthTo i bundle = value (allValues (sheet .items) (valuationOf (sheet .table) i)) bundle
 
   -- the least bundle of a cut, by agent i's marks: "the smallest worth among all n piles"
   abbrev pub leastOfCut : ℕ → List (List ℕ) → ℕ

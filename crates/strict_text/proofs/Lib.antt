@@ -4,7 +4,7 @@ pub mod SheetTokens
 pub mod SheetLexed
 pub mod Readers
 pub mod TokensRead
-pub mod InUse
+pub mod RowsInUse
 pub mod WithinLimits
 pub mod TextLength
 pub mod RoundTrip

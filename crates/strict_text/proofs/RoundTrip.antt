@@ -17,7 +17,7 @@ use Rattle.sheet.specs.Contents.{Contents}
 use Rattle.sheet.proofs.Limits.{counts-allowed}
 use Rattle.tokens.specs.Tokens.{Token, tokens}
 use Rattle.lexing.specs.Forms.{form}
-use Rattle.lexing.proofs.readers.Written.{follow-append}
+use Rattle.lexing.proofs.readers.ReadBack.{follow-append}
 use Rattle.sheet_lines.specs.SheetForms.{lastLine}
 use Rattle.sheet_lines.specs.Grammar.{head, Body}
 use Rattle.sheet_lines.specs.Marks.{allowedRow}
@@ -30,7 +30,7 @@ use Rattle.strict_text.proofs.SheetTokens.{headTokens, bodyTokens, shee
 use Rattle.strict_text.proofs.SheetLexed.{tokens-sheetText}
 use Rattle.strict_text.proofs.Readers.{head-inverse, body-inverse, lastLine-inverse}
 use Rattle.strict_text.proofs.TokensRead.{head-headTokens, body-bodyTokens}
-use Rattle.strict_text.proofs.InUse.{inUse-tableOf, inUse-rows, inUse-places, lines-carried, blankedBeyond}
+use Rattle.strict_text.proofs.RowsInUse.{rowsInUse-tableOf, rowsInUse-rows, rowsInUse-places, lines-carried, blankedBeyond}
 use Rattle.strict_text.proofs.WithinLimits.{rows-in-use, marks-in-use}
 use Rattle.strict_text.proofs.TextLength.{length-strictText}
 
@@ -114,15 +114,15 @@ strictText-same-iff s t c d e f =
     (λ same. accepted-injective c d (sym back-c ∙ ap reading same ∙ back-d), ap strictText)
 
 -- whatever stands in the places that are not in use, the strict text is read to the marks in use
-pub strictText-read-inUse : (c : Contents) → CountsWithin (c .agents) (c .items)
+pub strictText-read-rowsInUse : (c : Contents) → CountsWithin (c .agents) (c .items)
     → length (c .table) ≡ mostAgents → AllOfLength mostItems (c .table) → all (allowedRow greatestMark) (linesOf c .rows) ≡ true
     → reading (strictText c) ≡ accepted (blankedBeyond c)
 unfolding strictText
-strictText-read-inUse c counts n l f =
+strictText-read-rowsInUse c counts n l f =
     let few-agents = counts .few in
     let few-items = counts .few-items in
     let rows = linesOf c .rows in
-    let used = inUse-tableOf (c .agents) (c .items) rows (inUse-rows (c .agents) (c .items) (c .table) (omega arith)) (inUse-places (c .agents) (c .items) (c .table) mostItems few-items l) in
+    let used = rowsInUse-tableOf (c .agents) (c .items) rows (rowsInUse-rows (c .agents) (c .items) (c .table) (omega arith)) (rowsInUse-places (c .agents) (c .items) (c .table) mostItems few-items l) in
     let within-limits : WithinLimits (blankedBeyond c)
     = record { counts = counts; blank-beyond = ap tableOf (sym used); marks-allowed = ap (all (allowedRow greatestMark)) used ∙ f } in
     ap (λ rows. reading (sheetText (c .agents) (c .items) (record { rows = rows }))) (sym used) ∙ strictText-read (blankedBeyond c) within-limits

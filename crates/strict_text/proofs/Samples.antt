@@ -4,7 +4,7 @@ use Prim.Native.Nat.{_^_}
 use mathlib.Core.List.{[], _∷_, map}
 use Rattle.text.specs.Bytes.{bytes}
 use Rattle.text.specs.Decimal.{digitsIn, decimal, spacedNumbers}
-use Rattle.reading.specs.SampleTexts.{sheetA, contentsA}
+use Rattle.reading.specs.SampleTexts.{sheetTextA, contentsA}
 use Rattle.strict_text.specs.StrictText.{headText, yardText, yardTexts, bodyText, sheetText, strictText}
 
 decimal-samples : map decimal (0 ∷ 7 ∷ 10 ∷ 65535 ∷ 4294967295 ∷ 10 ^ 20 ∷ [])
@@ -13,6 +13,6 @@ unfolding decimal digitsIn
 decimal-samples = refl
 
 -- sheet a
-strictText-sheet-a : strictText contentsA ≡ sheetA
+strictText-sheet-a : strictText contentsA ≡ sheetTextA
 unfolding strictText sheetText bodyText headText yardTexts yardText spacedNumbers decimal digitsIn
 strictText-sheet-a = refl

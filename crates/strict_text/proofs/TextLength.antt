@@ -13,7 +13,7 @@ use Rattle.text.proofs.Decimal.{decimal-length}
 use Rattle.sheet.specs.Limits.{mostItems, greatestMark, markDigits}
 use Rattle.sheet.specs.Contents.{Contents}
 use Rattle.sheet_lines.specs.Marks.{allowed, allowedRow}
-use Rattle.strict_text.specs.StrictText.{headText, yardText, yardTexts, inUse, bodyText, sheetText, strictText, longestHead, longestYard, longestStrict}
+use Rattle.strict_text.specs.StrictText.{headText, yardText, yardTexts, rowsInUse, bodyText, sheetText, strictText, longestHeadText, longestYardText, longestStrict}
 use Rattle.strict_text.specs.WithinLimits.{WithinLimits}
 use Rattle.strict_text.proofs.WithinLimits.{rows-in-use, marks-in-use}
 
@@ -25,7 +25,7 @@ unfolding spacedNumbers
 numbers-length [] f = omega arith
 numbers-length (n ∷ ns) f = simp length-append (omega (arith, mark-length n (f .0), numbers-length ns (f .1)))
 
-head-length : (agents items : ℕ) → agents < 10 → items < 100 → length (headText agents items) ≤ longestHead
+head-length : (agents items : ℕ) → agents < 10 → items < 100 → length (headText agents items) ≤ longestHeadText
 unfolding headText
 head-length agents items few few-items =
     simp length-append (omega (arith, decimal-length agents 1 (omega arith) few, decimal-length items 2 (omega arith) few-items))
@@ -34,11 +34,11 @@ head-length agents items few few-items =
 abbrev pub SmallRow : List ℕ → Type 0
 SmallRow row = (length row ≤ mostItems) × Each (λ n. n ≤ greatestMark) row
 
-yard-length : (yard : ℕ) (row : List ℕ) → yard < 10 → SmallRow row → length (yardText yard row) ≤ longestYard
+yard-length : (yard : ℕ) (row : List ℕ) → yard < 10 → SmallRow row → length (yardText yard row) ≤ longestYardText
 unfolding yardText
 yard-length yard row y f = simp length-append (omega (arith, decimal-length yard 1 (omega arith) y, numbers-length row (f .1)))
 
-pub yards-length : (yard : ℕ) (rows : List (List ℕ)) → yard + length rows ≤ 10 → Each SmallRow rows → length (yardTexts yard rows) ≤ length rows * longestYard
+pub yards-length : (yard : ℕ) (rows : List (List ℕ)) → yard + length rows ≤ 10 → Each SmallRow rows → length (yardTexts yard rows) ≤ length rows * longestYardText
 unfolding yardTexts
 yards-length yard [] y f = omega arith
 yards-length yard (row ∷ rows) y f =
@@ -63,7 +63,7 @@ unfolding strictText sheetText bodyText
 length-strictText {c} w =
     let few = w .counts .few in
     let few-items = w .counts .few-items in
-    let rows = inUse (c .agents) (c .items) (c .table) in
+    let rows = rowsInUse (c .agents) (c .items) (c .table) in
     let small = small-rows (c .items) rows few-items (marks-in-use w) (w .marks-allowed) in
     let lines = yards-length 1 rows (omega (arith, rows-in-use w)) small in
     simp length-append (omega (arith, head-length (c .agents) (c .items) (omega arith) (omega arith), lines, rows-in-use w))

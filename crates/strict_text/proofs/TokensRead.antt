@@ -18,7 +18,7 @@ use Rattle.sheet_lines.specs.Grammar.{head, yardTurn, yardLine, Body, body}
 use Rattle.sheet.specs.Limits.{greatestMark, countDigits, markDigits}
 use Rattle.sheet_lines.specs.Marks.{allowed, allowedRow}
 use Rattle.strict_text.proofs.SheetTokens.{headTokens, turnTokens, yardTokens, tokensInTurn, yardsTokens, bodyTokens}
-use Rattle.lexing.proofs.readers.Written.{follow-append, number-decimal, numberAfter-decimal, followNumber-decimal}
+use Rattle.lexing.proofs.readers.ReadBack.{follow-append, number-decimal, numberAfter-decimal, followNumber-decimal}
 
 pub head-headTokens : (agents items : ℕ) (ts : List Token) → agents < 10 ^ countDigits → items < 10 ^ countDigits
     → head (headTokens agents items ++ ts) ≡ some (agents, items, ts)

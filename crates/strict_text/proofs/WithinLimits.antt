@@ -6,9 +6,9 @@ use lib.ListN.{length}
 use Rattle.lists.proofs.members.Each.{AllOfLength}
 use Rattle.sheet.specs.Limits.{mostAgents, mostItems}
 use Rattle.sheet.specs.Contents.{Contents}
-use Rattle.strict_text.specs.StrictText.{inUse}
+use Rattle.strict_text.specs.StrictText.{rowsInUse}
 use Rattle.strict_text.specs.WithinLimits.{WithinLimits}
-use Rattle.strict_text.proofs.InUse.{inUse-rows, inUse-places, tableOf-rows, tableOf-places}
+use Rattle.strict_text.proofs.RowsInUse.{rowsInUse-rows, rowsInUse-places, tableOf-rows, tableOf-places}
 
 module _ {c : Contents} (w : WithinLimits c) where
   pub table-rows : length (c .table) ≡ mostAgents
@@ -17,8 +17,8 @@ module _ {c : Contents} (w : WithinLimits c) where
   pub table-places : AllOfLength mostItems (c .table)
   table-places = subst (AllOfLength mostItems) (sym (w .blank-beyond)) (tableOf-places (c .agents) (c .items) (c .table) (w .counts .few-items))
 
-  pub rows-in-use : length (inUse (c .agents) (c .items) (c .table)) ≡ c .agents
-  rows-in-use = inUse-rows (c .agents) (c .items) (c .table) (omega (arith, table-rows, w .counts .few))
+  pub rows-in-use : length (rowsInUse (c .agents) (c .items) (c .table)) ≡ c .agents
+  rows-in-use = rowsInUse-rows (c .agents) (c .items) (c .table) (omega (arith, table-rows, w .counts .few))
 
-  pub marks-in-use : AllOfLength (c .items) (inUse (c .agents) (c .items) (c .table))
-  marks-in-use = inUse-places (c .agents) (c .items) (c .table) mostItems (w .counts .few-items) table-places
+  pub marks-in-use : AllOfLength (c .items) (rowsInUse (c .agents) (c .items) (c .table))
+  marks-in-use = rowsInUse-places (c .agents) (c .items) (c .table) mostItems (w .counts .few-items) table-places

@@ -24,8 +24,8 @@ yardTexts yard [] = []
 yardTexts yard (row ∷ rows) = yardText yard row ++ yardTexts (yard + 1) rows
 
 -- "places beyond the yards and pieces in use count for nothing": the rows of marks in use
-abbrev pub inUse : ℕ → ℕ → List (List ℕ) → List (List ℕ)
-inUse agents items table = map (take items) (take agents table)
+abbrev pub rowsInUse : ℕ → ℕ → List (List ℕ) → List (List ℕ)
+rowsInUse agents items table = map (take items) (take agents table)
 
 -- the lines between the first line and the line `(end)`
 unfoldable pub bodyText : Body → List ℕ
@@ -37,20 +37,20 @@ sheetText agents items lines = headText agents items ++ bodyText lines ++ bytes 
 
 -- the lines of what a sheet carries
 abbrev pub linesOf : Contents → Body
-linesOf c = record { rows = inUse (c .agents) (c .items) (c .table) }
+linesOf c = record { rows = rowsInUse (c .agents) (c .items) (c .table) }
 
 unfoldable pub strictText : Contents → List ℕ
 strictText c = sheetText (c .agents) (c .items) (linesOf c)
 
 -- the most bytes of the head of a table within the limits: (sheet (yards 6) (pieces 12)) and the line feed
-abbrev pub longestHead : ℕ
-longestHead = 30
+abbrev pub longestHeadText : ℕ
+longestHeadText = 30
 
 -- the most bytes of a yard line: (yard 6 (marks)) and the line feed, and a space and the digits of a mark for each piece
-abbrev pub longestYard : ℕ
-longestYard = 17 + mostItems * suc markDigits
+abbrev pub longestYardText : ℕ
+longestYardText = 17 + mostItems * suc markDigits
 
 -- a buffer of so many bytes is long enough for every table within the limits (proofs/TextLength.antt): the head, a line for each yard,
 -- and (end) with the line feed
 abbrev pub longestStrict : ℕ
-longestStrict = longestHead + mostAgents * longestYard + 6
+longestStrict = longestHeadText + mostAgents * longestYardText + 6

@@ -3,7 +3,7 @@ ghost use lib.ListN.{take};
 ghost use Rattle.sheet.specs.Contents.{contents};
 ghost use Rattle.text.specs.Decimal.{spacedNumber, spacedNumbers};
 ghost use Rattle.writing.specs.Output.{output, Written};
-ghost use Rattle.strict_text.specs.StrictText.{headText, yardText, yardTexts, inUse, strictText};
+ghost use Rattle.strict_text.specs.StrictText.{headText, yardText, yardTexts, rowsInUse, strictText};
 use sheet::Mark;
 use sheet::Row;
 use sheet::Sheet;
@@ -64,7 +64,7 @@ fn put_yard(buffer: &mut [u8], at: usize, agent: usize, marks: Row, items: usize
 
 // The lines of the first agents.
 fn put_yards(buffer: &mut [u8], at: usize, table: Table, agents: usize, items: usize) -> usize
-    ensures { λ r. ⌜ Written (output (now (buffer .entry)) at) (yardTexts 1 (inUse agents items table)) (output (now (buffer .exit)) r) ⌝ }
+    ensures { λ r. ⌜ Written (output (now (buffer .entry)) at) (yardTexts 1 (rowsInUse agents items table)) (output (now (buffer .exit)) r) ⌝ }
 {
     let last = lesser(agents, Sheet::AGENTS);
     let mut next = at;

@@ -66,12 +66,12 @@ module _ {s : List ℕ} {c : Cursor} where
       r .is-behind ∙ ap (behind s c) count
 
 -- a place that is reached, and where these tokens are left
-pub record Leaves (s : List ℕ) (c : Cursor) (ts : List Token) (c′ : Cursor) : Type 0 where
+pub record LeavesTokens (s : List ℕ) (c : Cursor) (ts : List Token) (c′ : Cursor) : Type 0 where
   pub tokens-left : tokensAt s c′ ≡ ts
   pub reached : Reached s c c′
 
 -- of the tokens at a place the last are left where they should be
-pub place-leaves : {s : List ℕ} {c : Cursor} {ts : List Token} → IsSuffix ts (tokensAt s c) → Leaves s c ts (placeLeft s c ts)
+pub place-leaves : {s : List ℕ} {c : Cursor} {ts : List Token} → IsSuffix ts (tokensAt s c) → LeavesTokens s c ts (placeLeft s c ts)
 place-leaves {s} {c} {ts} last =
     let passed : length (tokensAt s c) - length ts ≡ length (last .0) = omega (arith, sym (ap length (last .1)) ∙ length-append (last .0) ts) in
     record {

@@ -9,7 +9,7 @@ use lib.ListN.{length, getD, drop}
 use lib.Dec.{eqb}
 use borrow.Author.Tests.{eqb-true}
 use Rattle.tokens.specs.Lines.{lineFeed, space, semicolon}
-use Rattle.tokens.specs.After.{tokensAfter, countsForNothing}
+use Rattle.tokens.specs.TokensAfter.{tokensAfter, countsForNothing}
 use Rattle.tokens.proofs.texts.Bytewise.{tokensAfter-space, tokensAfter-blank-line, tokensAfter-remark-end, tokensAfter-remark-line-feed, tokensAfter-remark-byte}
 use Rattle.tokeniser.specs.NextToken.{inRemark, blanks}
 

@@ -10,7 +10,7 @@ use lib.Dec.{eqb}
 use Rattle.lists.proofs.places.Passing.{drop-next}
 use Rattle.tokens.specs.Lines.{lineFeed, space, semicolon}
 use Rattle.tokens.specs.Tokens.{isBracket, isWordByte}
-use Rattle.tokens.specs.After.{tokensAfter, isDelimiter, countsForNothing}
+use Rattle.tokens.specs.TokensAfter.{tokensAfter, isDelimiter, countsForNothing}
 use Rattle.tokens.proofs.texts.Words.{word-token, delimiter-token, no-delimiter}
 use Rattle.tokeniser.specs.internal.Scanned.{wordBytes, tokenBytes}
 

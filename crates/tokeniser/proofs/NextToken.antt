@@ -14,7 +14,7 @@ use Rattle.lists.proofs.Cases.{lt-or-ge}
 use Rattle.lists.proofs.places.Passing.{drop-next}
 use Rattle.tokens.specs.Lines.{lineFeed}
 use Rattle.tokens.specs.Tokens.{first, rest, ended}
-use Rattle.tokens.specs.After.{tokensAfter, isDelimiter, countsForNothing}
+use Rattle.tokens.specs.TokensAfter.{tokensAfter, isDelimiter, countsForNothing}
 use Rattle.tokens.proofs.texts.Words.{token-begins}
 use Rattle.tokeniser.specs.Places.{tokensAt, inside}
 use Rattle.tokeniser.specs.NextToken.{bytesOf, blanks, tokenStart, nextToken}

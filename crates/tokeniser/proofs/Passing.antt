@@ -10,7 +10,7 @@ use lib.Dec.{eqb}
 use borrow.Author.Tests.{ne-eqb}
 use Rattle.lists.proofs.places.Passing.{drop-next}
 use Rattle.tokens.specs.Lines.{lineFeed, space, semicolon}
-use Rattle.tokens.specs.After.{countsForNothing}
+use Rattle.tokens.specs.TokensAfter.{countsForNothing}
 use Rattle.tokeniser.specs.NextToken.{blanks}
 use Rattle.tokeniser.specs.internal.Scanned.{InRemark, RemarkTo, Passed}
 

@@ -8,7 +8,7 @@ use native.Mathlib.Omega.{arith}
 use lib.ListN.{length, drop, drop-of-length-le}
 use Rattle.lists.proofs.Cases.{lt-or-ge}
 use Rattle.tokens.specs.Tokens.{tokens}
-use Rattle.tokens.specs.After.{tokensAfter}
+use Rattle.tokens.specs.TokensAfter.{tokensAfter}
 use Rattle.tokeniser.specs.Places.{tokensAt, start, inside}
 use Rattle.tokeniser.specs.declared.Cursor.{Cursor}
 use Rattle.tokens.proofs.texts.Bytewise.{tokensAfter-fresh, tokensAfter-nil}

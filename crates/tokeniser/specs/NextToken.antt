@@ -7,7 +7,7 @@ use lib.ListN.{length, take, drop}
 use lib.Dec.{eqb}
 use Rattle.tokens.specs.Lines.{lineFeed, semicolon}
 use Rattle.tokens.specs.Tokens.{Token, first}
-use Rattle.tokens.specs.After.{countsForNothing}
+use Rattle.tokens.specs.TokensAfter.{countsForNothing}
 use Rattle.tokeniser.specs.Places.{tokensAt, inside}
 use Rattle.tokeniser.specs.declared.Cursor.{Cursor}
 use Rattle.tokeniser.specs.declared.Token as token

@@ -4,7 +4,7 @@ use mathlib.Core.Bool.{false}
 use Prim.Native.Nat.{ℕ, min}
 use lib.ListN.{length, drop}
 use Rattle.tokens.specs.Tokens.{Token}
-use Rattle.tokens.specs.After.{tokensAfter}
+use Rattle.tokens.specs.TokensAfter.{tokensAfter}
 use Rattle.tokeniser.specs.declared.Cursor.{Cursor}
 
 -- the tokens that follow a place; a place beyond the end has none

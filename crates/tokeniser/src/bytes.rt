@@ -1,7 +1,7 @@
 // What a byte of a text is.
 ghost use mathlib.Core.Path.{_≡_};
 ghost use Rattle.tokens.specs.Tokens.{isWordByte};
-ghost use Rattle.tokens.specs.After.{isDelimiter, countsForNothing};
+ghost use Rattle.tokens.specs.TokensAfter.{isDelimiter, countsForNothing};
 
 // Whether the byte is a token by itself.
 pub(crate) fn is_delimiter(b: u8) -> bool

@@ -2,5 +2,5 @@
 pub mod Lines
 pub mod Tokens
 pub mod Tokenised
-pub mod After
+pub mod TokensAfter
 pub mod Respaced

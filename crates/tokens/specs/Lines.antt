@@ -19,17 +19,17 @@ semicolon = 59
 -- a line: its bytes, and whether a line feed ends it; the end of the text may end the last one
 pub record Line : Type 0 where
   pub content : List ℕ
-  pub ended : Bool
+  pub terminated : Bool
 
 -- a byte before the lines of what follows it: it stands on the first of them
 unfoldable pub onFirst : ℕ → List Line → List Line
-onFirst b [] = record { content = b ∷ []; ended = false } ∷ []
-onFirst b (l ∷ ls) = record { content = b ∷ l .content; ended = l .ended } ∷ ls
+onFirst b [] = record { content = b ∷ []; terminated = false } ∷ []
+onFirst b (l ∷ ls) = record { content = b ∷ l .content; terminated = l .terminated } ∷ ls
 
 -- the lines of a text
 unfoldable pub lines : List ℕ → List Line
 lines [] = []
-lines (b ∷ bs) = cond (eqb b lineFeed) (record { content = []; ended = true } ∷ lines bs) (onFirst b (lines bs))
+lines (b ∷ bs) = cond (eqb b lineFeed) (record { content = []; terminated = true } ∷ lines bs) (onFirst b (lines bs))
 
 -- "A semicolon and what follows it, up to the line feed or the text's end, is dropped"
 unfoldable pub beforeRemark : List ℕ → List ℕ
@@ -37,7 +37,7 @@ beforeRemark [] = []
 beforeRemark (b ∷ bs) = cond (eqb b semicolon) [] (b ∷ beforeRemark bs)
 
 abbrev pub withoutRemark : Line → Line
-withoutRemark l = record { content = beforeRemark (l .content); ended = l .ended }
+withoutRemark l = record { content = beforeRemark (l .content); terminated = l .terminated }
 
 -- the lines of a text without their remarks
 abbrev pub linesWithoutRemarks : List ℕ → List Line

@@ -42,5 +42,5 @@ abbrev pub withoutSpaces : List ℕ → List ℕ
 withoutSpaces bs = reject (λ b. eqb b space) bs
 
 -- the bytes of a line, with the line feed where one ends it
-abbrev pub bytesOf : Line → List ℕ
-bytesOf l = l .content ++ cond (l .ended) (lineFeed ∷ []) []
+abbrev pub lineBytes : Line → List ℕ
+lineBytes l = l .content ++ cond (l .terminated) (lineFeed ∷ []) []

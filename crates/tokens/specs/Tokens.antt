@@ -46,7 +46,7 @@ words (b ∷ bs) =
 
 -- the tokens of a line: those of its bytes, and the line feed where one ends it
 unfoldable pub lineTokens : Line → List Token
-lineTokens l = words (l .content) ++ cond (l .ended) ((lineFeed ∷ []) ∷ []) []
+lineTokens l = words (l .content) ++ cond (l .terminated) ((lineFeed ∷ []) ∷ []) []
 
 -- "Layout is judged after that": the tokens of the lines that are left of a text
 unfoldable pub tokens : List ℕ → List Token

@@ -10,5 +10,5 @@ abbrev pub countAt : List (List ℕ) → ℕ → ℕ → ℕ
 countAt counts left used = getD (getD counts left []) used 0
 
 -- whether an item is wasted on a bundle, counted from 0, with such a load: it is not the first, it is in use, and it has the goal already
-abbrev pub isWasted : ℕ → ℕ → ℕ → ℕ → Bool
+abbrev pub isWasted : (goal load bundle used : ℕ) → Bool
 isWasted goal load bundle used = leb 1 bundle && (ltb bundle used && leb goal load)

@@ -34,15 +34,15 @@ supplied-within values few =
     (lt-or-ge greatestSum (total values))
 
 -- what the limits of a search are
-pub record Within (values : List ℕ) (bundles : ℕ) : Type 0 where
+pub record SearchLimits (values : List ℕ) (bundles : ℕ) : Type 0 where
   pub some-bundles : 1 ≤ bundles
   pub few-bundles : bundles ≤ mostAgents
   pub few : length values ≤ mostItems
   pub small : total values ≤ greatestSum
 
 module _ (values : List ℕ) (bundles : ℕ) where
-  pub searchable-within : searchable values bundles ≡ true → Within values bundles
-  searchable-within e =
+  pub searchable-limits : searchable values bundles ≡ true → SearchLimits values bundles
+  searchable-limits e =
       let (inside, limits) = and-eq-true-iff (within mostAgents bundles) _ .0 e in
       let (few, small) = and-eq-true-iff (leb (length values) mostItems) (leb (total values) greatestSum) .0 limits in
       let bounds = within-bounds mostAgents bundles inside in
@@ -53,12 +53,12 @@ module _ (values : List ℕ) (bundles : ℕ) where
         small = leb-true (total values) greatestSum small;
       }
 
-  pub within-searchable : Within values bundles → searchable values bundles ≡ true
-  within-searchable w =
+  pub limits-searchable : SearchLimits values bundles → searchable values bundles ≡ true
+  limits-searchable w =
       rw (le-leb 1 bundles (w .some-bundles), le-leb bundles mostAgents (w .few-bundles), le-leb (length values) mostItems (w .few), le-leb (total values) greatestSum (w .small)) refl
 
   -- a walk may start from empty bundles
-  pub walkable-start : Within values bundles → Walkable values bundles 0 0 (zeros mostAgents)
+  pub walkable-start : SearchLimits values bundles → Walkable values bundles 0 0 (zeros mostAgents)
   walkable-start w =
       record {
         few = omega (arith, w .few);

@@ -30,11 +30,11 @@ abbrev pub Counted : ℕ → ℕ → List (List ℕ) → Type 0
 Counted bundles most counts = (left used : ℕ) → left ≤ most → used ≤ bundles → countAt counts left used ≡ length (growthFrom bundles used left)
 
 -- the least bundle of a partition on top of the loads, counted up to the ceiling
-abbrev pub reached : ℕ → ℕ → List ℕ → List ℕ → List ℕ → ℕ
+abbrev pub reached : (ceiling bundles : ℕ) (loads values l : List ℕ) → ℕ
 reached ceiling bundles loads values l = min (leastLoaded bundles (loadOf loads) values l) ceiling
 
 -- the search once the growth partitions of the values are tried in turn, each written after the places already laid
-unfoldable pub walked : List ℕ → ℕ → ℕ → ℕ → List ℕ → List ℕ → ℕ → Search → Search
+unfoldable pub walked : (values : List ℕ) (bundles at used : ℕ) (loads partition : List ℕ) (ceiling : ℕ) (search : Search) → Search
 walked values bundles at used loads partition ceiling search =
     searched (reached ceiling bundles loads values) (sets partition at) search (growthFrom bundles used (length values))
 
@@ -43,7 +43,7 @@ abbrev pub start : ℕ → ℕ → Search
 start goal allowance = record { best = record { goal = goal; partition = zeros mostItems }; allowance = allowance }
 
 -- the search from empty bundles for a partition whose least bundle, counted up to the ceiling, reaches the goal
-abbrev pub walkedFrom : List ℕ → ℕ → ℕ → ℕ → ℕ → Search
+abbrev pub walkedFrom : (values : List ℕ) (bundles ceiling goal allowance : ℕ) → Search
 walkedFrom values bundles ceiling goal allowance = walked values bundles 0 0 (zeros mostAgents) (zeros mostItems) ceiling (start goal allowance)
 
 -- whether values and a number of bundles lie within the limits of a cut
@@ -51,11 +51,11 @@ abbrev pub searchable : List ℕ → ℕ → Bool
 searchable values bundles = within mostAgents bundles && (leb (length values) mostItems && leb (total values) greatestSum)
 
 -- the search of values within the limits; nothing is found of others
-unfoldable pub searching : List ℕ → ℕ → ℕ → ℕ → ℕ → Search
-searching values bundles ceiling goal allowance = cond (searchable values bundles) (walkedFrom values bundles ceiling goal allowance) (start goal allowance)
+unfoldable pub finding : (values : List ℕ) (bundles ceiling goal allowance : ℕ) → Search
+finding values bundles ceiling goal allowance = cond (searchable values bundles) (walkedFrom values bundles ceiling goal allowance) (start goal allowance)
 
 -- the search of values after one of them in another order: the least bundle that the first finds, one below the goal that it ends with, is
 -- the goal and the ceiling of the second
-unfoldable pub searchingAfter : List ℕ → List ℕ → ℕ → ℕ → ℕ → ℕ → Search
-searchingAfter ordered values bundles ceiling goal allowance =
-    let least = searching ordered bundles ceiling goal allowance .best .goal - 1 in searching values bundles least least allowance
+unfoldable pub findingAfter : (ordered values : List ℕ) (bundles ceiling goal allowance : ℕ) → Search
+findingAfter ordered values bundles ceiling goal allowance =
+    let least = finding ordered bundles ceiling goal allowance .best .goal - 1 in finding values bundles least least allowance

@@ -5,7 +5,7 @@ ghost use Rattle.sheet.specs.Limits.{mostAgents, mostItems};
 ghost use lib.ListN.{length};
 ghost use Rattle.lists.specs.Lists.{zeros};
 ghost use Rattle.reach.specs.Pruning.{GreatestFrom};
-ghost use Rattle.walking.specs.Walk.{Walkable, Counted, start, walked, walkedFrom, searchable, searching, searchingAfter};
+ghost use Rattle.walking.specs.Walk.{Walkable, Counted, start, walked, walkedFrom, searchable, finding, findingAfter};
 use growth::Counts;
 use growth::counts_for;
 use reach::loads::Loads;
@@ -170,7 +170,7 @@ fn find_by(
     allowance: u32,
 ) -> Search
     requires { ⌜ Counted (min bundles mostAgents) (min (length (now values)) mostItems) (now counts) ⌝ }
-    ensures { λ r. ⌜ r ≡ searching (now (values .entry)) bundles ceiling goal allowance ⌝ }
+    ensures { λ r. ⌜ r ≡ finding (now (values .entry)) bundles ceiling goal allowance ⌝ }
 {
     if !is_searchable(values, bundles) {
         return nothing(goal, allowance);
@@ -181,7 +181,7 @@ fn find_by(
 // The search for a partition of the values whose least bundle, counted up to the ceiling, reaches the goal: the first best of the growth
 // partitions, as far as the allowance goes. Nothing is found where the values or the bundles lie outside the limits of a cut.
 pub fn find(values: &[u64], bundles: usize, ceiling: u64, goal: u64, allowance: u32) -> Search
-    ensures { λ r. ⌜ r ≡ searching (now (values .entry)) bundles ceiling goal allowance ⌝ }
+    ensures { λ r. ⌜ r ≡ finding (now (values .entry)) bundles ceiling goal allowance ⌝ }
 {
     let counts = counts_for(values.len(), bundles);
     find_by(values, &counts, bundles, ceiling, goal, allowance)
@@ -204,7 +204,7 @@ pub fn find_after(
     goal: u64,
     allowance: u32,
 ) -> Search
-    ensures { λ r. ⌜ r ≡ searchingAfter (now (ordered .entry)) (now (values .entry)) bundles ceiling goal allowance ⌝ }
+    ensures { λ r. ⌜ r ≡ findingAfter (now (ordered .entry)) (now (values .entry)) bundles ceiling goal allowance ⌝ }
 {
     let counts = counts_for(greater(ordered.len(), values.len()), bundles);
     let first = find_by(ordered, &counts, bundles, ceiling, goal, allowance);

@@ -1,2 +1,2 @@
 -- What a writer is once a text is written.
-pub mod After
+pub mod WithText

@@ -14,5 +14,5 @@ abbrev pub withOutput : Writer → Output → Writer
 withOutput w o = record { buffer = at-last (w .buffer) (o .bytes); at = o .next }
 
 -- the writer once the text is written, as far as there is room
-abbrev pub after : Writer → List ℕ → Writer
-after w text = withOutput w (foldl withByte (outputOf w) text)
+abbrev pub withText : Writer → List ℕ → Writer
+withText w text = withOutput w (foldl withByte (outputOf w) text)

@@ -2,7 +2,7 @@
 ghost use mathlib.Core.Path.{_≡_};
 ghost use Rattle.text.specs.Decimal.{spacedNumber};
 ghost use Rattle.writing.specs.Output.{output, Written};
-ghost use Rattle.writer.specs.After.{after};
+ghost use Rattle.writer.specs.WithText.{withText};
 
 // A lent buffer, and the place of the byte that comes next.
 pub struct Writer<'a> {
@@ -29,7 +29,7 @@ pub fn place<'a>(w: Writer<'a>) -> usize
 
 // A word, with the brackets and spaces about it.
 pub fn word<'a, 'b>(w: Writer<'a>, text: &'b [u8]) -> Writer<'a>
-    ensures { λ r. ⌜ r ≡ after (w .entry) (now (text .entry)) ⌝ }
+    ensures { λ r. ⌜ r ≡ withText (w .entry) (now (text .entry)) ⌝ }
 {
     let at = w.at;
     let next = writing::put_bytes(&mut *w.buffer, at, text);
@@ -41,7 +41,7 @@ pub fn word<'a, 'b>(w: Writer<'a>, text: &'b [u8]) -> Writer<'a>
 
 // A number behind a space.
 pub fn number<'a>(w: Writer<'a>, n: u64) -> Writer<'a>
-    ensures { λ r. ⌜ r ≡ after (w .entry) (spacedNumber n) ⌝ }
+    ensures { λ r. ⌜ r ≡ withText (w .entry) (spacedNumber n) ⌝ }
 {
     let at = w.at;
     let next = writing::put_spaced_number(&mut *w.buffer, at, n);

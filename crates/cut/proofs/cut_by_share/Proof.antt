@@ -12,7 +12,7 @@ use Rattle.maximin.specs.Share.{maximinShare, maximinPartition}
 use Rattle.maximin.proofs.Laws.{maximinShare-le-mean}
 use Rattle.cut.proofs.sorting.Reordered.{reordered-all}
 use Rattle.cut.proofs.Whole.{foundWith}
-use Rattle.cut.proofs.ShareFirst.{same-share, searching-after}
+use Rattle.cut.proofs.ShareFirst.{same-share, finding-after}
 use Rattle.cut.proofs.Answered.{answeredShare, answered-share}
 use Rattle.cut.proofs.cut_by_share.Statement.{statement}
 use Rattle.cut.proofs.cut_by_share.Tie as tie
@@ -71,7 +71,7 @@ walks-find c =
     let s = sorted .before .before in
     let a = s .args in
     c .find-after .ensures
-    ∙ searching-after (a .bundles) (take (length (a .values .now)) (sorted .falling .result)) (a .values .now) (a .allowance) (same-values sorted) (s .pre .0)
+    ∙ finding-after (a .bundles) (take (length (a .values .now)) (sorted .falling .result)) (a .values .now) (a .allowance) (same-values sorted) (s .pre .0)
     _ _ (s .pre .1) (mean-above (dealt .before)) (omega arith) (omega (arith, deal-below dealt))
 
 sub-t14 : tie.Need-sub-t14
@@ -82,10 +82,10 @@ sub-t16 c = omega (arith, ap (λ found. found .allowance) (walks-find (c .before
 
 returns : tie.Need-returns
 returns c =
-    let finding = c .before .before .before .before in
-    let s = finding .before .before .before .before .before .before in
+    let at-find = c .before .before .before .before in
+    let s = at-find .before .before .before .before .before .before in
     let a = s .args in
-    ap (answeredShare (a .bundles) (a .values .now) (a .allowance)) (walks-find finding)
+    ap (answeredShare (a .bundles) (a .values .now) (a .allowance)) (walks-find at-find)
     ∙ answered-share (a .bundles) (a .values .now) (a .allowance) (s .pre .1)
 
 pub cut-by-share-spec : {M : Type 1} → statement M

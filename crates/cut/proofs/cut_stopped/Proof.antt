@@ -3,7 +3,7 @@ use mathlib.Core.Path.{_≡_, ap, _∙_}
 use native.Mathlib.Omega.{arith}
 use borrow.Author.Needs.{needs}
 use Rattle.maximin.proofs.Laws.{maximinShare-le-mean}
-use Rattle.cut.proofs.Whole.{bestLeast, bestPartition, foundWith, searching-best}
+use Rattle.cut.proofs.Whole.{bestLeast, bestPartition, foundWith, finding-best}
 use Rattle.cut.proofs.Answered.{answeredStopped, answered-stopped}
 use Rattle.cut.proofs.cut_stopped.Statement.{statement}
 use Rattle.cut.proofs.cut_stopped.Tie as tie
@@ -21,7 +21,7 @@ walk-finds c =
     let s = c .before .before .before in
     let allowed = s .pre .0 in
     c .find .ensures
-    ∙ searching-best (s .args .bundles) (s .args .values .now) (s .args .allowance) _ 0 allowed
+    ∙ finding-best (s .args .bundles) (s .args .values .now) (s .args .allowance) _ 0 allowed
     (omega (arith, c .before .mean .ensures, maximinShare-le-mean (s .args .bundles) (s .args .values .now) (allowed .some-bundles))) (omega arith)
 
 sub-t7 : tie.Need-sub-t7
@@ -32,10 +32,10 @@ sub-t9 c = omega (arith, ap (λ found. found .allowance) (walk-finds (c .before 
 
 returns : tie.Need-returns
 returns c =
-    let finding = c .before .before .before .before in
-    let s = finding .before .before .before in
+    let at-find = c .before .before .before .before in
+    let s = at-find .before .before .before in
     let a = s .args in
-    ap (answeredStopped (a .bundles) (a .values .now) (a .allowance)) (walk-finds finding)
+    ap (answeredStopped (a .bundles) (a .values .now) (a .allowance)) (walk-finds at-find)
     ∙ answered-stopped (a .bundles) (a .values .now) (a .allowance) (s .pre .1)
 
 pub cut-stopped-spec : {M : Type 1} → statement M

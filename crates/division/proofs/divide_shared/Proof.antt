@@ -14,9 +14,9 @@ use Rattle.matching.specs.Matching.{cutterOf}
 use Rattle.matching.proofs.Cutter.{cutterOf-mem}
 use Rattle.serving.specs.Serving.{agentsIn}
 use Rattle.division.specs.internal.Left.{instanceFrom, Ready}
-use Rattle.division.specs.internal.Allocation.{nothing, allottedAll}
+use Rattle.division.specs.internal.Allocation.{emptyAllocation, allottedAll}
 use Rattle.division.specs.declared.dividing.Allocation.{Allocation}
-use Rattle.division.proofs.rounds.Accepted.{upTo-is, allAgents, allItems, agentsIn-all, ready-all, own-cut, placedSets, placedCutters, allotted-accepted, outcome-accepted}
+use Rattle.division.proofs.rounds.Accepted.{upTo-is, allAgentsSet, allItems, agentsIn-all, ready-all, own-cut, placedSets, placedCutters, allotted-accepted, outcome-accepted}
 use Rattle.division.proofs.divide_shared.Statement.{statement}
 use Rattle.division.proofs.divide_shared.Tie as tie
 
@@ -28,7 +28,7 @@ abbrev at-cutter : tie.After-nothing-handed-out → tie.After-cutter-of
 at-cutter c = c .before .before .before
 
 -- the set of all agents, and that of all items
-agents-are : (c : tie.After-all-items) → let s = start c in c .all-items .result ≡ allAgents (s .pre)
+agents-are : (c : tie.After-all-items) → let s = start c in c .all-items .result ≡ allAgentsSet (s .pre)
 agents-are c =
     let s = start c in
     c .all-items .ensures ∙ upTo-is (s .args .sheet .agents) mostAgents (s .pre .known .counts .few) (omega arith)
@@ -101,7 +101,7 @@ handed c =
     let out =
     c .divide-left .ensures
     ∙ ap (run (at-agents .all-items .result) (at-items .all-items2 .result)) (at-nothing .nothing-handed-out .ensures)
-    ∙ ap₂ (λ left set. run left set nothing) (agents-are at-agents) (items-are at-items) in
+    ∙ ap₂ (λ left set. run left set emptyAllocation) (agents-are at-agents) (items-are at-items) in
     let accepted = allotted-accepted (s .pre) in
     (ap (λ r. r .bundles) out ∙ accepted .0, ap (λ r. r .cutters) out ∙ accepted .1)
 

@@ -18,7 +18,7 @@ use Rattle.lists.proofs.ranges.RangeSublists.{range-sublist-few}
 use Rattle.sheet.specs.Limits.{mostAgents, mostItems, setBits, greatestSum}
 use Rattle.sheet.specs.Sets.{itemsOf, setOf}
 use Rattle.sheet.specs.Valuations.{itemValue, value}
-use Rattle.sheet.specs.Tables.{valuation}
+use Rattle.sheet.specs.Tables.{valuationOf}
 use Rattle.sheet.specs.Listed.{numbered}
 use Rattle.sheet.specs.Amounts.{SmallAmounts}
 use Rattle.sheet.proofs.sets.Sets.{items-setOf}
@@ -35,8 +35,8 @@ use Rattle.serving.proofs.round.AgentsLeft.{agentsIn-sublist}
 use Rattle.serving.proofs.round.Parts.{chosen-within}
 use Rattle.terms.specs.Allowed.{SmallTerms}
 use Rattle.terms.specs.declared.Terms.{Terms}
-use Rattle.margins.specs.Margins.{termsWithin}
-use Rattle.margins.proofs.Stored.{termsWithin-small}
+use Rattle.margins.specs.Margins.{limitedTerms}
+use Rattle.margins.proofs.Stored.{limitedTerms-small}
 use Rattle.rounds.specs.Round.{Instance, Round, round}
 use Rattle.rounds.proofs.round.Parts.{cutterCut, cutSuits}
 use Rattle.settling.specs.Suiting.{setSuits, suitsRow, suitsTable}
@@ -75,12 +75,12 @@ module _ {left set : ℕ} (ok : Cuttable left set) (terms : Terms) (small-terms 
   cutSets = bundleSets set (placed l)
 
   -- what suits whom, by the definition
-  abbrev suiting : ℕ → ℕ → Bool
-  suiting = cutSuits G agents (itemsOf set)
+  abbrev suits : ℕ → ℕ → Bool
+  suits = cutSuits G agents (itemsOf set)
 
   entry-each : length l ≡ length (itemsOf set)
   entry-each =
-      let v = itemValue (valuation table cutter) in
+      let v = itemValue (valuationOf table cutter) in
       maximinPartition-within (length agents) (map v (itemsOf set)) (ok .some-left) .1 ∙ length-map (itemsOf set) v
 
   -- set c is that of bundle c
@@ -101,28 +101,28 @@ module _ {left set : ℕ} (ok : Cuttable left set) (terms : Terms) (small-terms 
   abbrev tableSuits : ℕ → ℕ → Bool
   tableSuits = bundleSuits terms table shares cutter left set (placed l)
 
-  suits-agree : Agree tableSuits suiting agents (bundleNumbers agents)
+  suits-agree : Agree tableSuits suits agents (bundleNumbers agents)
   unfolding suitsTable suitsRow
   suits-agree agent ma c mc =
       let mostly = sublist-mem (range-sublist 1 (length agents) mostAgents (range-sublist-few mostAgents (agentsIn-sublist left))) mc in
-      ap (λ row. nth false row c) (nth-map-range (λ a. suitsRow terms (valuation table a) (nth 0 shares a) cutSets) [] mostAgents (sublist-mem (agentsIn-sublist left) ma))
-      ∙ nth-map-range (λ c. setSuits terms (valuation table agent) (nth 0 shares agent) (nth 0 cutSets c)) false mostAgents mostly
-      ∙ ap (suitedBy (termsWithin terms) (min (nth 0 shares agent) greatestSum)) (items-cutSets c mostly)
-      ∙ ap₂ (λ t share. suitedBy t share (bundle (itemsOf set) l c)) (termsWithin-small terms small-terms) share-kept
+      ap (λ row. nth false row c) (nth-map-range (λ a. suitsRow terms (valuationOf table a) (nth 0 shares a) cutSets) [] mostAgents (sublist-mem (agentsIn-sublist left) ma))
+      ∙ nth-map-range (λ c. setSuits terms (valuationOf table agent) (nth 0 shares agent) (nth 0 cutSets c)) false mostAgents mostly
+      ∙ ap (suitedBy (limitedTerms terms) (min (nth 0 shares agent) greatestSum)) (items-cutSets c mostly)
+      ∙ ap₂ (λ t share. suitedBy t share (bundle (itemsOf set) l c)) (limitedTerms-small terms small-terms) share-kept
     where
       -- a list of items, by such terms and with such a share: the code cuts neither
       suitedBy : Terms → ℕ → List ℕ → Bool
-      suitedBy t share ks = leb (t .top * share) (t .bottom * value (valuation table agent) ks)
+      suitedBy t share ks = leb (t .top * share) (t .bottom * value (valuationOf table agent) ks)
 
       share-kept : min (nth 0 shares agent) greatestSum ≡ nth 0 shares agent
       share-kept = omega (arith, small (agent - 1))
 
   -- the bundles that are handed out
   abbrev handed : List ℕ
-  handed = chosenOf suiting cutter agents
+  handed = chosenOf suits cutter agents
 
   handed-within : Within mostAgents handed
-  handed-within = chosen-within suiting cutter (agentsIn-sublist left)
+  handed-within = chosen-within suits cutter (agentsIn-sublist left)
 
   -- their sets
   handed-sets : map (nth 0 cutSets) handed ≡ map setOf (map (bundle (itemsOf set) l) handed)
@@ -139,7 +139,7 @@ module _ {left set : ℕ} (ok : Cuttable left set) (terms : Terms) (small-terms 
         arith,
         total-zeros sets (mostAgents - length sets),
         ap total (handed-sets ∙ map-map setOf (bundle (itemsOf set) l) handed),
-        setOf-handed handed (itemsOf set) l (chosenOf-distinct suiting cutter agents) entry-each,
+        setOf-handed handed (itemsOf set) l (chosenOf-distinct suits cutter agents) entry-each,
         setOf-items set mostItems (ok .small-set) (omega arith),
       )
 
@@ -158,6 +158,6 @@ module _ {left set : ℕ} (ok : Cuttable left set) (terms : Terms) (small-terms 
       let sets-of : List ℕ → List ℕ = map (nth 0 cutSets) in
       let rest-of : List ℕ → ℕ = λ chosen. set - total (padded mostAgents 0 (sets-of chosen)) in
       let chosen = chosenOf tableSuits cutter agents in
-      ap₂ (λ served waiting. settledFrom served waiting (sets-of chosen) (rest-of chosen)) (servedOf-cong tableSuits suiting cutter agents suits-agree) (waitingOf-cong tableSuits suiting cutter agents suits-agree)
-      ∙ ap (λ chosen. settledFrom (servedOf suiting cutter agents) (waitingOf suiting cutter agents) (sets-of chosen) (rest-of chosen)) (chosenOf-cong tableSuits suiting cutter agents suits-agree)
-      ∙ ap₂ (settledFrom (servedOf suiting cutter agents) (waitingOf suiting cutter agents)) handed-sets left-rest
+      ap₂ (λ served waiting. settledFrom served waiting (sets-of chosen) (rest-of chosen)) (servedOf-cong tableSuits suits cutter agents suits-agree) (waitingOf-cong tableSuits suits cutter agents suits-agree)
+      ∙ ap (λ chosen. settledFrom (servedOf suits cutter agents) (waitingOf suits cutter agents) (sets-of chosen) (rest-of chosen)) (chosenOf-cong tableSuits suits cutter agents suits-agree)
+      ∙ ap₂ (settledFrom (servedOf suits cutter agents) (waitingOf suits cutter agents)) handed-sets left-rest

@@ -30,7 +30,7 @@ use Rattle.rounds.specs.Division.{instanceOfTable, allRounds, allocation, divis
 use Rattle.rounds.proofs.Allocation.{sound, allocation-sublist}
 use Rattle.division.specs.Outcome.{outcome}
 use Rattle.division.specs.internal.Left.{instanceFrom, cutLeft, Ready}
-use Rattle.division.specs.internal.Allocation.{nothing, allottedAll}
+use Rattle.division.specs.internal.Allocation.{emptyAllocation, allottedAll}
 use Rattle.division.specs.internal.Shared.{IsShared}
 use Rattle.division.specs.declared.Answer.the-variants.{Divided}
 use Rattle.division.proofs.Outcomes.{items-setOf-bundle}
@@ -61,21 +61,21 @@ module _ {n m : ℕ} {table : List (List ℕ)} {terms : Terms} {allowance : ℕ}
   counts = shared .known .counts
 
   -- all agents, as a set
-  abbrev pub allAgents : ℕ
-  allAgents = setOf (range 1 n)
+  abbrev pub allAgentsSet : ℕ
+  allAgentsSet = setOf (range 1 n)
 
   -- all items
   abbrev pub allItems : ℕ
   allItems = setOf (range 1 m)
 
-  pub agentsIn-all : agentsIn allAgents ≡ range 1 n
-  agentsIn-all = agentsIn-items allAgents (upTo-below n mostAgents (counts .few) (omega arith)) ∙ upTo-items n mostAgents (counts .few) (omega arith)
+  pub agentsIn-all : agentsIn allAgentsSet ≡ range 1 n
+  agentsIn-all = agentsIn-items allAgentsSet (upTo-below n mostAgents (counts .few) (omega arith)) ∙ upTo-items n mostAgents (counts .few) (omega arith)
 
   pub itemsOf-all : itemsOf allItems ≡ range 1 m
   itemsOf-all = upTo-items m mostItems (counts .few-items) (omega arith)
 
   -- the rounds of all agents and all items may start
-  pub ready-all : Ready terms (own .shares) allowance allAgents allItems nothing
+  pub ready-all : Ready terms (own .shares) allowance allAgentsSet allItems emptyAllocation
   ready-all =
       record {
         small-terms = shared .allowed .small;
@@ -92,7 +92,7 @@ module _ {n m : ℕ} {table : List (List ℕ)} {terms : Terms} {allowance : ℕ}
 
   -- each agent's own cut is the partition of the first round, where that agent cuts
   pub own-cut : (other : Cut) (cutter : ℕ) → Mem cutter (range 1 n)
-      → nth other (own .cuts) cutter .partition ≡ placed (cutLeft table cutter (agentsIn allAgents) (itemsOf allItems))
+      → nth other (own .cuts) cutter .partition ≡ placed (cutLeft table cutter (agentsIn allAgentsSet) (itemsOf allItems))
   own-cut other cutter i =
       rw (shared .own-cuts, cuts-range n m table, agentsIn-all, itemsOf-all, length-range 1 n) (ap (λ c. c .partition) (nth-padded-range mostAgents blankCut other (cutAt n m table) n i))
 
@@ -115,7 +115,7 @@ module _ {n m : ℕ} {table : List (List ℕ)} {terms : Terms} {allowance : ℕ}
   items-at i = ap itemsOf (getD-setOf bundles (mostAgents - length (map setOf bundles)) i) ∙ items-setOf-bundle m (counts .few-items) (bundle-sublist i)
 
   -- what the code's rounds hand out, from nothing
-  pub allotted-accepted : let a = allottedAll (instanceFrom terms table (own .shares)) (agentsIn allAgents) (itemsOf allItems) nothing in
+  pub allotted-accepted : let a = allottedAll (instanceFrom terms table (own .shares)) (agentsIn allAgentsSet) (itemsOf allItems) emptyAllocation in
       (a .bundles ≡ placedSets) × (a .cutters ≡ placedCutters)
   allotted-accepted =
       let s = sound n m terms table (shared .allowed .at-most-standard) in

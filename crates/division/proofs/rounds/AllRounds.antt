@@ -18,8 +18,8 @@ use Rattle.lists.proofs.places.Zeros.{drop-zeros, getD-zeros}
 use Rattle.lists.proofs.members.Distinct.{mem-elem, elem-mem, not-mem-elem}
 use Rattle.sheet.specs.Limits.{mostAgents}
 use Rattle.sheet.specs.Sets.{setOf}
-use Rattle.rounds.specs.Round.{Instance, Round, suits, round, rounds, given, held}
-use Rattle.division.specs.internal.Allocation.{nothing, withRound, allotted}
+use Rattle.rounds.specs.Round.{Instance, Round, itemsSuit, round, rounds, given, held}
+use Rattle.division.specs.internal.Allocation.{emptyAllocation, withRound, allotted}
 use Rattle.division.specs.declared.dividing.Allocation.{Allocation}
 use Rattle.rounds.proofs.round.Rounds.{rounds-few}
 use Rattle.rounds.proofs.round.Held.{given-later, allSuit-length}
@@ -98,7 +98,7 @@ module _ {N M : ℕ} {G : Instance} (sound : Sound N M G) where
       step false e below =
           allotted-other most (r .waiting) (r .left) (omega (arith, falls)) after next agent some e
           ∙ stored-given agent some N (r .served) (r .bundles) (a .bundles) (held rest agent) (served-within state) (served-distinct sound (omega arith) state)
-          (allSuit-length (suits G) (r .served) (r .bundles) (round-suits sound (omega arith) state)) room (not-waiting-served G (b ∷ agents) items agent m e)
+          (allSuit-length (itemsSuit G) (r .served) (r .bundles) (round-suits sound (omega arith) state)) room (not-waiting-served G (b ∷ agents) items agent m e)
 
 -- the set in each place, where sets stand in the first places and 0 in the others
 pub getD-setOf : (bundles : List (List ℕ)) (k i : ℕ) → getD (map setOf bundles ++ zeros k) i 0 ≡ setOf (getD bundles i [])
@@ -121,35 +121,35 @@ module _ {N M : ℕ} {G : Instance} (sound : Sound N M G) (few : N ≤ mostAgent
   abbrev held-sets : List ℕ
   held-sets = map setOf bundles
 
-  place : (i : ℕ) → i < mostAgents → getD (allotted rs nothing .bundles) i 0 ≡ getD (padded mostAgents 0 held-sets) i 0
+  place : (i : ℕ) → i < mostAgents → getD (allotted rs emptyAllocation .bundles) i 0 ≡ getD (padded mostAgents 0 held-sets) i 0
   place i room =
-      ap (λ k. getD (allotted rs nothing .bundles) k 0) (sym (add-sub-cancel i 1))
+      ap (λ k. getD (allotted rs emptyAllocation .bundles) k 0) (sym (add-sub-cancel i 1))
       ∙ ⊎-elim in-use beyond (lt-or-ge i N)
     where
-      in-use : i < N → getD (allotted rs nothing .bundles) (i + 1 - 1) 0 ≡ getD (padded mostAgents 0 held-sets) i 0
+      in-use : i < N → getD (allotted rs emptyAllocation .bundles) (i + 1 - 1) 0 ≡ getD (padded mostAgents 0 held-sets) i 0
       in-use lt =
           let m = in-range 1 N (i + 1) (omega arith) (omega arith) in
-          allotted-held sound N (range 1 N) (range 1 M) (omega (arith, length-range 1 N)) (left-all N M G) nothing (i + 1) (omega arith) (omega arith) m
+          allotted-held sound N (range 1 N) (range 1 M) (omega (arith, length-range 1 N)) (left-all N M G) emptyAllocation (i + 1) (omega arith) (omega arith) m
           ∙ sym (getD-setOf bundles (mostAgents - length held-sets) i ∙ ap setOf (sym (nth-next [] bundles i) ∙ nth-map-range (held rs) [] N m))
 
-      beyond : N ≤ i → getD (allotted rs nothing .bundles) (i + 1 - 1) 0 ≡ getD (padded mostAgents 0 held-sets) i 0
+      beyond : N ≤ i → getD (allotted rs emptyAllocation .bundles) (i + 1 - 1) 0 ≡ getD (padded mostAgents 0 held-sets) i 0
       beyond ge =
           let out = not-mem-elem (i + 1) (range 1 N) (λ m. let b = range-bounds 1 N m in omega arith) in
-          allotted-other sound N (range 1 N) (range 1 M) (omega (arith, length-range 1 N)) (left-all N M G) nothing (i + 1) (omega arith) out
+          allotted-other sound N (range 1 N) (range 1 M) (omega (arith, length-range 1 N)) (left-all N M G) emptyAllocation (i + 1) (omega arith) out
           ∙ getD-zeros mostAgents (i + 1 - 1)
           ∙ sym (getD-setOf bundles (mostAgents - length held-sets) i ∙ ap setOf (List·getD-eq-default bundles [] (omega (arith, length-bundles))))
 
-  pub allotted-bundles : allotted rs nothing .bundles ≡ padded mostAgents 0 held-sets
-  allotted-bundles = ext-getD 0 (allotted rs nothing .bundles) (padded mostAgents 0 held-sets) same (λ i lt. place i (omega (arith, length-allotted rs nothing)))
+  pub allotted-bundles : allotted rs emptyAllocation .bundles ≡ padded mostAgents 0 held-sets
+  allotted-bundles = ext-getD 0 (allotted rs emptyAllocation .bundles) (padded mostAgents 0 held-sets) same (λ i lt. place i (omega (arith, length-allotted rs emptyAllocation)))
     where
-      same : length (allotted rs nothing .bundles) ≡ length (padded mostAgents 0 held-sets)
-      same = length-allotted rs nothing
+      same : length (allotted rs emptyAllocation .bundles) ≡ length (padded mostAgents 0 held-sets)
+      same = length-allotted rs emptyAllocation
           ∙ omega (arith, length-bundles, length-map bundles setOf, length-append held-sets (zeros (mostAgents - length held-sets)), length-replicate {A = ℕ} (mostAgents - length held-sets) 0)
 
-  pub allotted-cutters-all : allotted rs nothing .cutters ≡ padded mostAgents 0 (map (λ r. r .cutter) rs)
+  pub allotted-cutters-all : allotted rs emptyAllocation .cutters ≡ padded mostAgents 0 (map (λ r. r .cutter) rs)
   allotted-cutters-all =
       let cutters = map (λ (r : Round). r .cutter) rs in
-      allotted-cutters rs nothing
+      allotted-cutters rs emptyAllocation
       ∙ sets-eq cutters (zeros mostAgents) 0 (omega (arith, length-map rs (λ r. r .cutter), rounds-few G N (range 1 N) (range 1 M)))
       ∙ ap (λ l. cutters ++ l) (drop-zeros mostAgents (0 + length cutters))
       ∙ ap (λ k. cutters ++ zeros (mostAgents - k)) (zero-add (length cutters))

@@ -9,11 +9,11 @@ use Rattle.rounds.specs.Round.{Instance, Round, rounds}
 use Rattle.division.specs.declared.dividing.Allocation.{Allocation}
 
 -- nothing is handed out
-abbrev pub nothing : Allocation
-nothing = record { bundles = zeros mostAgents; cutters = zeros mostAgents; rounds = 0 }
+abbrev pub emptyAllocation : Allocation
+emptyAllocation = record { bundles = zeros mostAgents; cutters = zeros mostAgents; rounds = 0 }
 
 -- the places with the set of each agent served in its place, and 0 where the sets are too few
-abbrev pub stored : List ℕ → List ℕ → List ℕ → List ℕ
+abbrev pub stored : (served sets places : List ℕ) → List ℕ
 stored [] sets places = places
 stored (agent ∷ served) sets places = stored served (drop 1 sets) (set places (agent - 1) (getD sets 0 0))
 

@@ -5,7 +5,7 @@ use lib.ListN.{length}
 use Rattle.sheet.specs.Limits.{mostAgents, mostItems}
 use Rattle.sheet.specs.Sets.{itemsOf}
 use Rattle.sheet.specs.Valuations.{itemValue}
-use Rattle.sheet.specs.Tables.{valuation}
+use Rattle.sheet.specs.Tables.{valuationOf}
 use Rattle.sheet.specs.Amounts.{SmallAmounts}
 use Rattle.growth.specs.Growth.{growths}
 use Rattle.maximin.specs.Share.{maximinPartition}
@@ -21,7 +21,7 @@ instanceFrom terms table shares = record { terms = terms; valuations = table; sh
 
 -- the cutter's cut of the items left into as many bundles as there are agents left
 abbrev pub cutLeft : List (List ℕ) → ℕ → List ℕ → List ℕ → List ℕ
-cutLeft table cutter agents items = maximinPartition (length agents) (map (itemValue (valuation table cutter)) items)
+cutLeft table cutter agents items = maximinPartition (length agents) (map (itemValue (valuationOf table cutter)) items)
 
 -- some agents are left, and both sets are those of a sheet
 pub record Cuttable (left set : ℕ) : Type 0 where
@@ -30,7 +30,7 @@ pub record Cuttable (left set : ℕ) : Type 0 where
   pub small-set : set < 2 ^ mostItems
 
 -- the allowance does not stop the cut of the items left into as many bundles as there are agents left
-abbrev pub EnoughFor : ℕ → ℕ → ℕ → Type 0
+abbrev pub EnoughFor : (allowance left set : ℕ) → Type 0
 EnoughFor allowance left set = growths (length (agentsIn left)) (length (itemsOf set)) ≤ allowance
 
 -- where the rounds may start: what they are handed is small enough, no cut is stopped, and there is a place for each round

@@ -8,9 +8,9 @@ use Rattle.tokeniser.specs.Places.{tokensAt}
 use Rattle.tokeniser.proofs.Behind.{reached-then, reached-place}
 use Rattle.lexing.proofs.readers.Places.{ReadTo, number-missed, followed-missed, numberAfter-read, follow-read}
 use Rattle.division_numbers.specs.Forms.{beforeWorth, beforeShare}
-use Rattle.division_numbers.specs.Numbers.{amounts}
+use Rattle.division_numbers.specs.Numbers.{statedAmounts}
 use Rattle.division_numbers.specs.Results.{amountsFrom}
-use Rattle.division_numbers.specs.declared.Amounts.the-variants.{Values}
+use Rattle.division_numbers.specs.declared.StatedAmounts.the-variants.{Values}
 use borrow.Author.Needs.{needs}
 use Rattle.division_numbers.proofs.read_amounts.Statement.{statement}
 use Rattle.division_numbers.proofs.read_amounts.Tie as tie
@@ -42,7 +42,7 @@ enum-told : tie.Need-enum-told
 enum-told c = search needs
 
 returns : tie.Need-returns
-unfolding amounts amountsFrom
+unfolding statedAmounts amountsFrom
 returns c = rw (number-missed _ _ _ (c .before .before .number-after .ensures) (c .enum-told .given .1))
 
 slice-aggregate-number-after-2 : tie.Need-slice-aggregate-number-after-2
@@ -58,7 +58,7 @@ enum-told-2 : tie.Need-enum-told-2
 enum-told-2 c = search needs
 
 returns-2 : tie.Need-returns-2
-unfolding amounts amountsFrom
+unfolding statedAmounts amountsFrom
 returns-2 c =
     rw (worth-read (c .before .before .before .before .before) .read, number-missed _ _ _ (c .before .before .number-after2 .ensures) (c .enum-told2 .given .1))
 
@@ -75,13 +75,13 @@ enum-told-3 : tie.Need-enum-told-3
 enum-told-3 c = search needs
 
 returns-3 : tie.Need-returns-3
-unfolding amounts amountsFrom
+unfolding statedAmounts amountsFrom
 returns-3 c =
     let i = c .before .before .before .before .before in
     rw (worth-read (worth-point i) .read, share-read i .read, followed-missed _ _ _ (c .before .before .follow .ensures) (c .enum-told3 .given .1))
 
 returns-4 : tie.Need-returns-4
-unfolding amounts amountsFrom
+unfolding statedAmounts amountsFrom
 returns-4 c =
     let l = follow-read _ _ _ (c .before .before .before .follow .ensures) (c .before .c3 .given .1) in
     let i = c .before .before .before .before .before .before in

@@ -16,7 +16,7 @@ use Rattle.tokeniser.specs.Places.{tokensAt}
 use Rattle.tokeniser.proofs.Behind.{reached-then, reached-place}
 use Rattle.sheet_lines.specs.SheetForms.{beforeItems}
 use Rattle.division_numbers.specs.Forms.{beforeCounts, beforeGrade}
-use Rattle.division_numbers.specs.Numbers.{gradeDigits, head}
+use Rattle.division_numbers.specs.Numbers.{gradeDigits, divisionHead}
 use Rattle.division_numbers.proofs.read_head.Statement.{statement}
 use Rattle.division_numbers.proofs.read_head.Tie as tie
 
@@ -58,7 +58,7 @@ enum-told : tie.Need-enum-told
 enum-told c = search needs
 
 returns : tie.Need-returns
-unfolding head
+unfolding divisionHead
 returns c = answer-none _ _ _ _ (rw (followed-missed _ _ _ (c .before .before .follow-number .ensures) (c .enum-told .given .1)))
 
 slice-aggregate-follow-number-2 : tie.Need-slice-aggregate-follow-number-2
@@ -74,7 +74,7 @@ enum-told-2 : tie.Need-enum-told-2
 enum-told-2 c = search needs
 
 returns-2 : tie.Need-returns-2
-unfolding head
+unfolding divisionHead
 returns-2 c =
     let missed = followed-missed _ _ _ (c .before .before .follow-number2 .ensures) (c .enum-told2 .given .1) in
     answer-none _ _ _ _ (rw (agents-read (c .before .before .before .before .before) .read, missed))
@@ -92,7 +92,7 @@ enum-told-3 : tie.Need-enum-told-3
 enum-told-3 c = search needs
 
 returns-3 : tie.Need-returns-3
-unfolding head
+unfolding divisionHead
 returns-3 c =
     let i = c .before .before .before .before .before in
     let missed = number-missed _ _ _ (c .before .before .number-after .ensures) (c .enum-told3 .given .1) in
@@ -111,7 +111,7 @@ enum-told-4 : tie.Need-enum-told-4
 enum-told-4 c = search needs
 
 returns-4 : tie.Need-returns-4
-unfolding head
+unfolding divisionHead
 returns-4 c =
     let g = c .before .before .before .before .before in
     let i = items-point g in
@@ -119,7 +119,7 @@ returns-4 c =
     answer-none _ _ _ _ (rw (agents-read (agents-point i) .read, items-read i .read, grade-read g .read, missed))
 
 returns-5 : tie.Need-returns-5
-unfolding head answerFrom
+unfolding divisionHead answerFrom
 returns-5 c =
     let g = c .before .before .before .before .before .before in
     let i = items-point g in

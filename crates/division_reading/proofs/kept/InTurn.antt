@@ -14,7 +14,7 @@ use Rattle.lexing.proofs.readers.Answers.{Telling}
 use Rattle.lexing.proofs.readers.Stored.{Storing, storedFrom, none-stored}
 use Rattle.division_reading.specs.DivisionForms.{beforeCutPile}
 use Rattle.division_reading.specs.Stated.{StatedLine}
-use Rattle.division_reading.specs.Grammar.{bundleAfter, cutBundles, yardLine, yardLines}
+use Rattle.division_reading.specs.Grammar.{bundleAfter, cutBundles, divisionLine, divisionLines}
 use Rattle.division_reading.specs.Outcome.{keptLine, blankLine, blankLines}
 use Rattle.division_reading.specs.internal.Results.{unreadCut, readCut, cutFrom, unreadLine, readLine, unreadLines, readLines, linesFrom}
 use Rattle.division_reading.specs.declared.StatedLine as line
@@ -44,11 +44,11 @@ abbrev pub linesRead : List line.StatedLine → Cursor → Lines
 linesRead lines next = record { read = true; lines = lines; next = next }
 
 abbrev pub linesStored : ℕ → ℕ → Storing StatedLine line.StatedLine Lines
-linesStored agents items = record { reader = yardLine agents items; stored = keptLine; test = λ line. true; missed = unreadLines; done = λ passed. linesRead }
+linesStored agents items = record { reader = divisionLine agents items; stored = keptLine; test = λ line. true; missed = unreadLines; done = λ passed. linesRead }
 
 module _ (s : List ℕ) (c : Cursor) (agents items : ℕ) (ts : List Token) (few : agents ≤ mostAgents) where
   pub no-bundle-stored : cutFrom s c (cutBundles agents items ts) ≡ storedFrom (cutStored items) s c agents 0 (zeros mostAgents) true ts
   no-bundle-stored = none-stored (cutStored items) s c agents mostAgents 0 ts few
 
-  pub no-line-stored : linesFrom s c (yardLines agents items ts) ≡ storedFrom (linesStored agents items) s c agents 0 blankLines true ts
+  pub no-line-stored : linesFrom s c (divisionLines agents items ts) ≡ storedFrom (linesStored agents items) s c agents 0 blankLines true ts
   no-line-stored = none-stored (linesStored agents items) s c agents mostAgents blankLine ts few

@@ -13,15 +13,15 @@ use Rattle.lexing.specs.Forms.{ended}
 use Rattle.lexing.proofs.readers.Places.{number-missed, followed-missed, followed-to}
 use Rattle.lexing.proofs.readers.Answers.{Told, told-missed, told-read}
 use Rattle.sheet_lines.proofs.Suffixes.{endLine-leaves}
-use Rattle.division_numbers.proofs.Places.{head-read as head-to}
+use Rattle.division_numbers.proofs.Places.{divisionHead-read as head-to}
 use Rattle.sheet_lines.specs.Grammar.{endLine}
-use Rattle.division_reading.specs.Grammar.{head, yardLines, divisionText, divisionWithin}
+use Rattle.division_reading.specs.Grammar.{divisionHead, divisionLines, divisionText, readingDivision}
 use Rattle.division_reading.specs.Outcome.{kept}
 use Rattle.division_reading.specs.declared.Stated.{Stated}
 use Rattle.division_reading.proofs.Suffixes.{yardLines-leave}
 use Rattle.division_reading.proofs.Shape.{grade-below}
 use Rattle.division_reading.proofs.kept.InTurn.{linesTell}
-use Rattle.division_reading.proofs.kept.Division.{too-many-agents, too-many-items, divisionWithin-text}
+use Rattle.division_reading.proofs.kept.Division.{too-many-agents, too-many-items, readingDivision-text}
 use Rattle.division_reading.proofs.read_division.Statement.{statement}
 use Rattle.division_reading.proofs.read_division.Tie as tie
 
@@ -48,23 +48,23 @@ few-items c = omega arith
 -- the division is what its text says
 text-within : (c : tie.Else2) → let a = start c .args in
     let ts = tokensAt (now (a .s)) (a .c) in
-    divisionWithin (a .agents) (a .items) ts ≡ divisionText (a .agents) (a .items) ts
-text-within c = divisionWithin-text _ _ _ (few-agents c) (few-items c)
+    readingDivision (a .agents) (a .items) ts ≡ divisionText (a .agents) (a .items) ts
+text-within c = readingDivision-text _ _ _ (few-agents c) (few-items c)
 
 -- what each part says where it has been read
 head-read : (c : tie.After-grade) → let a = start (counts-point c) .args in
-    head (a .agents) (a .items) (tokensAt (now (a .s)) (a .c)) ≡ some (c .grade .given .0 .0, tokensAt (now (a .s)) (c .grade .given .0 .1 .0))
+    divisionHead (a .agents) (a .items) (tokensAt (now (a .s)) (a .c)) ≡ some (c .grade .given .0 .0, tokensAt (now (a .s)) (c .grade .given .0 .1 .0))
 head-read c = head-to _ _ _ _ (c .before .before .read-head .ensures) (c .grade .given .1) .read
 
 lines-read : (c : tie.Else3) → let h = head-point c in
     let a = start (counts-point h) .args in
     let place = h .grade .given .0 .1 .0 in
-    Told linesTell (now (a .s)) place (yardLines (a .agents) (a .items) (tokensAt (now (a .s)) place)) (c .before .before .yard-lines .result)
-lines-read c = told-read linesTell _ _ _ (yardLines-leave _ _ _) (c .before .before .yard-lines .ensures) (not-false (c .before .before .yard-lines .result .read) (c .if3 .left))
+    Told linesTell (now (a .s)) place (divisionLines (a .agents) (a .items) (tokensAt (now (a .s)) place)) (c .before .before .division-lines .result)
+lines-read c = told-read linesTell _ _ _ (yardLines-leave _ _ _) (c .before .before .division-lines .ensures) (not-false (c .before .before .division-lines .result .read) (c .if3 .left))
 
 text-ended : (c : tie.After-enum-told2) → let l = lines-point c in
     let s = now (start (counts-point (head-point l)) .args .s) in
-    endLine ended (tokensAt s (l .before .before .yard-lines .result .next)) ≡ some (tokensAt s (c .enum-told2 .given .0 .0))
+    endLine ended (tokensAt s (l .before .before .division-lines .result .next)) ≡ some (tokensAt s (c .enum-told2 .given .0 .0))
 text-ended c = followed-to _ _ _ (endLine-leaves _ _) (c .before .before .end-line .ensures) (c .enum-told2 .given .1) .read
 
 unread-requires : tie.Need-unread-requires
@@ -98,8 +98,8 @@ returns-3 c =
     let missed = number-missed _ _ _ (read .read-head .ensures) (c .before .enum-told .given .1) in
     rw (text-within (read .before), missed) (c .unread3 .ensures)
 
-yard-lines-requires : tie.Need-yard-lines-requires
-yard-lines-requires c κs = search needs
+division-lines-requires : tie.Need-division-lines-requires
+division-lines-requires c κs = search needs
 
 unread-requires-4 : tie.Need-unread-requires-4
 unread-requires-4 c κs = search needs
@@ -109,7 +109,7 @@ unfolding divisionText
 returns-4 c =
     let read = c .before .before .before in
     let h = read .before .before in
-    let missed = told-missed linesTell _ _ _ (read .yard-lines .ensures) (not-true (read .yard-lines .result .read) (c .before .if3 .taken)) in
+    let missed = told-missed linesTell _ _ _ (read .division-lines .ensures) (not-true (read .division-lines .result .read) (c .before .if3 .taken)) in
     rw (text-within (counts-point h), head-read h, missed) (c .unread4 .ensures)
 
 end-line-requires : tie.Need-end-line-requires
@@ -161,7 +161,7 @@ read-division-spec =
     enum-told
     unread-requires-3
     returns-3
-    yard-lines-requires
+    division-lines-requires
     unread-requires-4
     returns-4
     end-line-requires

@@ -14,7 +14,7 @@ use Rattle.sheet.specs.Sets.{itemsOf}
 use Rattle.sheet.specs.Valuations.{value}
 use Rattle.exact_levels.specs.Parts.{IsPart}
 use Rattle.exact_levels.specs.internal.Keeping.{servedBonus, keptOf, RaisedAt}
-use Rattle.exact_levels.specs.Serving.{Serves, RankedAt, Ranked}
+use Rattle.exact_levels.specs.ServedSets.{Serves, RankedAt, Ranked}
 use Rattle.exact_levels.proofs.sets.Parts.{part-trans}
 use Rattle.exact_levels.proofs.sets.Values.{value-split}
 

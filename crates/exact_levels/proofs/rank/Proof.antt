@@ -10,7 +10,7 @@ use borrow.Author.Needs.{needs}
 use Rattle.lists.proofs.places.Zeros.{getD-zeros}
 use Rattle.sheet.specs.Limits.{mostAgents, mostItems}
 use Rattle.sheet.proofs.sets.Ranges.{setOf-upTo}
-use Rattle.exact_levels.specs.Serving.{RankedAt, Ranked}
+use Rattle.exact_levels.specs.ServedSets.{RankedAt, Ranked}
 use Rattle.exact_levels.specs.Levels.{levelsOf}
 use Rattle.exact_levels.specs.internal.Keeping.{AllSets}
 use Rattle.exact_levels.proofs.kept.Served.{ranked-none, ranked-next}

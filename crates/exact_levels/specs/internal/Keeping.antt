@@ -78,7 +78,7 @@ pub record CanKeepItem (kept : List ℕ) (bit sets : ℕ) : Type 0 where
   pub small : SmallFrom 0 bit kept
 
 -- what is kept of a set once the item of `bit` may be kept
-abbrev pub withItem : List ℕ → ℕ → ℕ → ℕ → ℕ
+abbrev pub withItem : (old : List ℕ) (bit mark set : ℕ) → ℕ
 withItem old bit mark set = cond (eqb (set / bit % 2) 1) (max (getD old set 0) (getD old (set - bit) 0 + mark)) (getD old set 0)
 
 -- the same for each of the sets, and no other place changes
@@ -95,7 +95,7 @@ pub record CanRaise (levels : List ℕ) (before items sets : ℕ) : Type 0 where
   pub all-sets : AllSets items sets
 
 -- the level of a set of which an agent with this share can keep so much at the most, behind those before
-abbrev pub levelWith : ℕ → ℕ → ℕ → ℕ → ℕ
+abbrev pub levelWith : (level before share most : ℕ) → ℕ
 levelWith level before share most = cond (leb (servedBonus + share) most) (before + 1) level
 
 -- the level of a set once the agent with this share is tried behind those before

@@ -19,7 +19,7 @@ use Rattle.lists.proofs.dictionary.Listed.{listsOver-in}
 use Rattle.sheet.specs.Limits.{mostItems, setBits}
 use Rattle.sheet.specs.Sets.{itemsOf, setOf}
 use Rattle.sheet.specs.Valuations.{value}
-use Rattle.sheet.specs.Tables.{valuation}
+use Rattle.sheet.specs.Tables.{valuationOf}
 use Rattle.sheet.specs.Contents.{sheetOf}
 use Rattle.sheet.proofs.sets.Sets.{items-setOf}
 use Rattle.sheet.proofs.sets.Bits.{setOf-sum}
@@ -29,7 +29,7 @@ use Rattle.bundling.specs.Bundles.{itemsIn, bundle}
 use Rattle.bundling.proofs.Bundles.{itemsIn-sublist}
 use Rattle.exact_division.specs.Exact.{hasShare, isExact, bundlesBy, exactExists}
 use Rattle.exact_division.proofs.Existence.{exists-giving}
-use Rattle.exact_levels.specs.Serving.{Serves}
+use Rattle.exact_levels.specs.ServedSets.{Serves}
 use Rattle.exact_levels.proofs.sets.Parts.{some-part}
 
 -- the items of bundles that pass one test are some of those of bundles that pass a weaker one
@@ -92,7 +92,7 @@ module _ (n m : ℕ) (table : List (List ℕ)) (shares : List ℕ) (few : m ≤ 
     upTo-sub : (i : ℕ) → Sublist (upTo i) (range 1 m)
     upTo-sub i = itemsIn-sublist (λ c. leb c i) (range 1 m) l
 
-    reached : (agent : ℕ) → Mem agent (range 1 n) → shareOf (sheetOf n m table) agent ≤ value (valuation table agent) (bundle (range 1 m) l agent)
+    reached : (agent : ℕ) → Mem agent (range 1 n) → shareOf (sheetOf n m table) agent ≤ value (valuationOf table agent) (bundle (range 1 m) l agent)
     unfolding isExact
     reached agent ma =
         leb-true _ _
@@ -112,8 +112,8 @@ module _ (n m : ℕ) (table : List (List ℕ)) (shares : List ℕ) (few : m ≤ 
         let ma = in-range 1 n (suc i) (omega arith) (omega arith) in
         let place : i ≡ suc i - 1 = omega arith in
         let own-share : getD shares i 0 ≡ shareOf (sheetOf n m table) (suc i) = ap (λ k. getD shares k 0) place ∙ own-shares (suc i) ma in
-        let worth : value (getD table i []) (itemsOf (set - setOf (upTo i))) ≡ value (valuation table (suc i)) own =
-        ap (λ k. value (getD table k []) (itemsOf (set - setOf (upTo i)))) place ∙ ap (value (valuation table (suc i))) kept in (
+        let worth : value (getD table i []) (itemsOf (set - setOf (upTo i))) ≡ value (valuationOf table (suc i)) own =
+        ap (λ k. value (getD table k []) (itemsOf (set - setOf (upTo i)))) place ∙ ap (value (valuationOf table (suc i))) kept in (
           setOf (upTo i),
           record {
             is-part = some-part set (setOf-below mostItems (sublist-trans (upTo-sub (suc i)) (range-sublist 1 m mostItems few))) front;

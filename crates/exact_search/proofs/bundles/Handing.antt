@@ -15,7 +15,7 @@ use Rattle.sheet.specs.Limits.{mostAgents, mostItems}
 use Rattle.sheet.specs.Sets.{itemsOf}
 use Rattle.sheet.specs.Valuations.{value}
 use Rattle.exact_levels.specs.Parts.{IsPart}
-use Rattle.exact_levels.specs.Serving.{Leaves, Serves}
+use Rattle.exact_levels.specs.ServedSets.{Leaves, Serves}
 use Rattle.exact_search.specs.internal.Handing.{HandedOut}
 use Rattle.exact_levels.proofs.sets.Parts.{part-refl, part-trans, Split, split}
 use Rattle.exact_levels.proofs.sets.Values.{value-split}

@@ -13,7 +13,7 @@ use Rattle.sheet.specs.Limits.{mostItems}
 use Rattle.sheet.specs.Sets.{itemsOf}
 use Rattle.sheet.specs.Valuations.{value}
 use Rattle.exact_levels.specs.Parts.{isPart}
-use Rattle.exact_levels.specs.Serving.{Leaves, Serves, Ranked}
+use Rattle.exact_levels.specs.ServedSets.{Leaves, Serves, Ranked}
 use Rattle.exact_search.specs.internal.Handing.{mayLeave, FirstLeft}
 use Rattle.exact_levels.proofs.sets.Named.{part-isPart, isPart-part}
 

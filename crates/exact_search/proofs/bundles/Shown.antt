@@ -21,7 +21,7 @@ use Rattle.lists.proofs.places.Zeros.{drop-zero}
 use Rattle.sheet.specs.Limits.{mostAgents, mostItems}
 use Rattle.sheet.specs.Sets.{itemsOf, setOf}
 use Rattle.sheet.specs.Valuations.{value}
-use Rattle.sheet.specs.Tables.{valuation}
+use Rattle.sheet.specs.Tables.{valuationOf}
 use Rattle.sheet.specs.Allocations.{Allocates}
 use Rattle.sheet.specs.Contents.{sheetOf}
 use Rattle.sheet.proofs.sets.Items.{setOf-items}
@@ -114,8 +114,8 @@ module _ (n m : ℕ) (table : List (List ℕ)) (shares bundles : List ℕ) (all 
   shown-exact =
       mem-all (λ agent. hasShare (sheetOf n m table) agent (nth [] shown agent)) (range 1 n)
       (λ agent ma. let b = range-bounds 1 n ma in
-      le-leb (shareOf (sheetOf n m table) agent) (value (valuation table agent) (nth [] shown agent))
-      (omega (arith, own-shares agent ma, out .reached (agent - 1) (omega arith), ap (value (valuation table agent)) (nth-shown agent (b .0) (omega arith)))))
+      le-leb (shareOf (sheetOf n m table) agent) (value (valuationOf table agent) (nth [] shown agent))
+      (omega (arith, own-shares agent ma, out .reached (agent - 1) (omega arith), ap (value (valuationOf table agent)) (nth-shown agent (b .0) (omega arith)))))
 
   pub shown-exact-division : ExactDivision (sheetOf n m table) shown
   shown-exact-division = record { allocates = shown-allocates; items-rise = shown-rising; shares-reached = shown-exact }

@@ -11,10 +11,10 @@ use Rattle.sheet.specs.Limits.{mostAgents, mostItems}
 use Rattle.sheet.specs.Sets.{itemsOf}
 use Rattle.sheet.specs.Valuations.{value}
 use Rattle.exact_levels.specs.Parts.{IsPart, isPart}
-use Rattle.exact_levels.specs.Serving.{Serves, Ranked}
+use Rattle.exact_levels.specs.ServedSets.{Serves, Ranked}
 
 -- whether an agent may leave a part of a set to those before it: they can be served from it, and the rest is worth its share
-unfoldable pub mayLeave : List ℕ → ℕ → ℕ → ℕ → ℕ → ℕ → Bool
+unfoldable pub mayLeave : (valuation : List ℕ) (share level before part set : ℕ) → Bool
 mayLeave valuation share level before part set = leb before level && (isPart part set && leb share (value valuation (itemsOf (set - part))))
 
 -- the first part of a set, as numbers, that the agent may leave, or the set where no lesser part may be left

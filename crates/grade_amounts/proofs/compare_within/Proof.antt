@@ -15,12 +15,12 @@ use Rattle.lists.proofs.places.Places.{nth-next, store-small}
 use Rattle.sheet.specs.Limits.{mostAgents, mostItems, greatestSum}
 use Rattle.sheet.specs.Sets.{itemsOf}
 use Rattle.sheet.specs.Valuations.{value}
-use Rattle.sheet.specs.Tables.{valuation, allValues, profile}
+use Rattle.sheet.specs.Tables.{valuationOf, allValues, profile}
 use Rattle.sheet.specs.Amounts.{SmallAmounts}
-use Rattle.sheet.proofs.valuing.Tables.{valuation-profile}
+use Rattle.sheet.proofs.valuing.Tables.{valuationOf-profile}
 use Rattle.sheet.proofs.sets.Bundles.{nth-items}
 use Rattle.sheet.proofs.sets.Remainders.{value-all}
-use Rattle.grade_amounts.specs.Compared.{ownValue, greatestValue, multipleOfOwn, totalValue, compared}
+use Rattle.grade_amounts.specs.Compared.{ownValue, greatestBundleValue, multipleOfOwn, totalValue, compared}
 use Rattle.grade_amounts.specs.declared.Compared.{Compared}
 use Rattle.grade_amounts.proofs.compare_within.Statement.{statement}
 use Rattle.grade_amounts.proofs.compare_within.Tie as tie
@@ -30,7 +30,7 @@ Inv-loop agents items table bundles all own₀ greatest₀ multiples₀ totals�
     let valuations = profile agents (min items mostItems) table in
     (i ≤ agents)
     × (own ≡ padded mostAgents 0 (map (ownValue agents valuations (map itemsOf bundles)) (range 1 i)))
-    × (greatest ≡ padded mostAgents 0 (map (greatestValue agents valuations (map itemsOf bundles)) (range 1 i)))
+    × (greatest ≡ padded mostAgents 0 (map (greatestBundleValue agents valuations (map itemsOf bundles)) (range 1 i)))
     × (multiples ≡ padded mostAgents 0 (map (multipleOfOwn agents valuations (map itemsOf bundles)) (range 1 i)))
     × (totals ≡ padded mostAgents 0 (map (totalValue agents valuations (map itemsOf bundles)) (range 1 i)))
     × SmallAmounts own
@@ -49,12 +49,12 @@ start c = c .before .before
 row-read : (c : tie.In-loop Inv-loop μ-loop)
     → let a = start (c .before) .args in
     let i = c .before .loop .i in
-    allValues (min (a .items) mostItems) (getD (a .t1) i []) ≡ valuation (profile (a .agents) (min (a .items) mostItems) (a .t1)) (i + 1)
+    allValues (min (a .items) mostItems) (getD (a .t1) i []) ≡ valuationOf (profile (a .agents) (min (a .items) mostItems) (a .t1)) (i + 1)
 row-read c =
     let a = start (c .before) .args in
     let i = c .before .loop .i in
     let m = min (a .items) mostItems in
-    sym (valuation-profile (a .agents) m (a .t1) (in-range 1 (a .agents) (i + 1) (omega arith) (omega arith)) ∙ ap (allValues m) (nth-next [] (a .t1) i))
+    sym (valuationOf-profile (a .agents) m (a .t1) (in-range 1 (a .agents) (i + 1) (omega arith) (omega arith)) ∙ ap (allValues m) (nth-next [] (a .t1) i))
 
 all-items-requires : tie.Need-all-items-requires Inv-loop μ-loop
 all-items-requires c κs = search needs
@@ -138,7 +138,7 @@ loop-again c =
       ap (λ s. store s (l .i) own) (l .inv .1)
           ∙ padded-range mostAgents 0 (ownValue (a .agents) rows bundles) (l .i) own (omega arith) worth,
       ap (λ s. store s (l .i) (seen .greatest-in-use .result)) (l .inv .2)
-          ∙ padded-range mostAgents 0 (greatestValue (a .agents) rows bundles) (l .i) (seen .greatest-in-use .result) (omega arith)
+          ∙ padded-range mostAgents 0 (greatestBundleValue (a .agents) rows bundles) (l .i) (seen .greatest-in-use .result) (omega arith)
           (seen .greatest-in-use .ensures ∙ ap (λ values. greatestOf (λ j. value values (nth [] bundles j)) (a .agents)) row),
       ap (λ s. store s (l .i) (a .agents * own)) (l .inv .3)
           ∙ padded-range mostAgents 0 (multipleOfOwn (a .agents) rows bundles) (l .i) (a .agents * own) (omega arith) (ap (λ v. a .agents * v) worth),

@@ -10,7 +10,7 @@ use Rattle.sheet.specs.Sets.{itemsOf}
 use Rattle.sheet.specs.Tables.{profile}
 use Rattle.sheet.specs.Contents.{contents}
 use Rattle.sheet.specs.Amounts.{SmallAmounts}
-use Rattle.margins.specs.Margins.{margin, termsWithin, marginsStored}
+use Rattle.margins.specs.Margins.{margin, limitedTerms, marginsStored}
 use Rattle.grades.specs.Grade.{ownValues}
 use Rattle.grades.specs.Assessment.{Assessment, assessmentIn}
 use Rattle.grade_amounts.specs.Compared.{compared}
@@ -61,7 +61,7 @@ grade-told c =
     let s = start c in
     c .grade-by .ensures
     ∙ grade-by-amounts (agentsOf s) (rowsOf s) (bundlesOf s) (s .args .shares)
-    (λ i. margin (termsWithin (s .args .terms)) (nth 0 (ownValues (agentsOf s) (rowsOf s) (bundlesOf s)) i) (nth 0 (map (λ share. min share greatestSum) (s .args .shares)) i))
+    (λ i. margin (limitedTerms (s .args .terms)) (nth 0 (ownValues (agentsOf s) (rowsOf s) (bundlesOf s)) i) (nth 0 (map (λ share. min share greatestSum) (s .args .shares)) i))
     (amounts c .compare .ensures .0) (margins-told c)
 
 compare-requires : tie.Need-compare-requires

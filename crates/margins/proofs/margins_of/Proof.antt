@@ -12,13 +12,13 @@ use Rattle.lists.proofs.places.Padding.{padded-range}
 use Rattle.lists.proofs.places.Places.{nth-next}
 use Rattle.sheet.specs.Limits.{mostAgents}
 use Rattle.terms.specs.declared.Terms.{Terms}
-use Rattle.margins.specs.Margins.{marginWithin}
+use Rattle.margins.specs.Margins.{limitedMargin}
 use Rattle.margins.proofs.margins_of.Statement.{statement}
 use Rattle.margins.proofs.margins_of.Tie as tie
 
 -- the margin of agent k
 abbrev marginAt : Terms → List ℕ → List ℕ → ℕ → ℤ
-marginAt terms worths shares k = marginWithin terms (nth 0 worths k) (nth 0 shares k)
+marginAt terms worths shares k = limitedMargin terms (nth 0 worths k) (nth 0 shares k)
 
 abbrev Inv-loop : tie.InvT-loop
 Inv-loop agents terms worths shares last margins₀ i₀ margins i = (i ≤ last) × (margins ≡ padded mostAgents (pos 0) (map (marginAt terms worths shares) (range 1 i)))
@@ -64,7 +64,7 @@ loop-again c =
     let a = c .before .before .before .before .args in
     let l = c .before .before .loop in
     let read : c .margin-of .result ≡ marginAt (a .terms) (a .t3) (a .t4) (l .i + 1) =
-    c .margin-of .ensures ∙ ap₂ (marginWithin (a .terms)) (sym (nth-next 0 (a .t3) (l .i))) (sym (nth-next 0 (a .t4) (l .i))) in
+    c .margin-of .ensures ∙ ap₂ (limitedMargin (a .terms)) (sym (nth-next 0 (a .t3) (l .i))) (sym (nth-next 0 (a .t4) (l .i))) in
     (omega arith, rw (toZ-ofZ w64 (c .margin-of .result) (record { sfits = c .margin-of .ok }), l .inv .1) (padded-range mostAgents (pos 0) (marginAt (a .terms) (a .t3) (a .t4)) (l .i) (c .margin-of .result) (omega arith) read))
 
 returns : tie.Need-returns Inv-loop μ-loop

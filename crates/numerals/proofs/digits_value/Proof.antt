@@ -1,4 +1,4 @@
--- `decimal` meets its contract. The loop's invariant: the digits from `i` on, after those of `n`, are the number, and `n` has at most `i` digits. Assumes nothing.
+-- `digits-value` meets its contract. The loop's invariant: the digits from `i` on, after those of `n`, are the number, and `n` has at most `i` digits. Assumes nothing.
 use mathlib.Core.Path.{_≡_, refl, sym, ap, _∙_}
 use mathlib.Core.Bool.{true}
 use Prim.Native.Nat.{_≤_, _<_, _-_, _^_}
@@ -6,8 +6,8 @@ use native.Mathlib.Omega.{arith}
 use lib.ListN.{length, drop, drop-of-length-le}
 use Rattle.numerals.specs.Numerals.{allDigits, digitsAfter}
 use Rattle.numerals.proofs.Digits.{digit-at, digitsAfter-drop, below-ten-times, few-digits}
-use Rattle.numerals.proofs.decimal.Statement.{statement}
-use Rattle.numerals.proofs.decimal.Tie as tie
+use Rattle.numerals.proofs.digits_value.Statement.{statement}
+use Rattle.numerals.proofs.digits_value.Tie as tie
 
 abbrev Inv-loop : tie.InvT-loop
 Inv-loop w n₀ i₀ n i =
@@ -54,8 +54,8 @@ returns : tie.Need-returns Inv-loop μ-loop
 unfolding digitsAfter
 returns c = sym (c .before .loop .inv .3 ∙ ap (digitsAfter _) (drop-of-length-le _ (c .loop-test .left)))
 
-pub decimal-spec : {M : Type 1} → statement M
-decimal-spec =
+pub digits-value-spec : {M : Type 1} → statement M
+digits-value-spec =
     tie.close
     (tie.spec
     Inv-loop

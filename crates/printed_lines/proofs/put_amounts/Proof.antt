@@ -1,5 +1,5 @@
 -- `put_amounts` meets its contract. Assumes nothing.
-use Rattle.printed_lines.specs.PrintedLines.{amounts}
+use Rattle.printed_lines.specs.PrintedLines.{worthAndShare}
 use Rattle.writing.proofs.Written.{_then_}
 use borrow.Author.Needs.{needs}
 use Rattle.printed_lines.proofs.put_amounts.Statement.{statement}
@@ -24,7 +24,7 @@ same-length : tie.Need-same-length
 same-length c = search needs
 
 returns : tie.Need-returns
-unfolding amounts
+unfolding worthAndShare
 returns c =
     let at-end = c .before .before in
     let at-share = at-end .before .before .before .before in

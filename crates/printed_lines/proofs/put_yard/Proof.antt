@@ -1,5 +1,5 @@
 -- `put_yard` meets its contract. Assumes nothing.
-use Rattle.printed_lines.specs.PrintedLines.{yardLine}
+use Rattle.printed_lines.specs.PrintedLines.{printedYard}
 use native.Mathlib.Omega.{arith}
 use Rattle.writing.proofs.Written.{_then_}
 use borrow.Author.Needs.{needs}
@@ -37,7 +37,7 @@ same-length : tie.Need-same-length
 same-length c = search needs
 
 returns : tie.Need-returns
-unfolding yardLine
+unfolding printedYard
 returns c =
     let end = c .before .before in
     let cut = end .before .before .before .before .before in

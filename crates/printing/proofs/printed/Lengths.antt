@@ -15,9 +15,9 @@ use Rattle.sheet.specs.Contents.{Contents}
 use Rattle.bundling.specs.Bundles.{bundle, allBundles}
 use Rattle.rounds.specs.Division.{Division}
 use Rattle.bundling.proofs.Sums.{sumOver-handed}
-use Rattle.printed_lines.proofs.Lengths.{length-cutGroup, length-yardLine, length-allLines}
+use Rattle.printed_lines.proofs.Lengths.{length-cutGroup, length-printedYard, length-allLines}
 use Rattle.printing.specs.Printed.{cutGroup, cuttersLine, agentLine, printed}
-use Rattle.printing.specs.Printing.{longestCut, longestYard, longestCutters, longestPrinted}
+use Rattle.printing.specs.Printing.{longestCut, longestPrintedYard, longestCutters, longestPrinted}
 use Rattle.printing.proofs.printed.Printable.{Printable}
 
 length-cuttersLine : (n : ℕ) (cutters : List ℕ) → n ≤ mostAgents → Within n cutters → length cutters ≤ n → length (cuttersLine cutters) ≤ longestCutters
@@ -49,13 +49,13 @@ module _ (sheet : Contents) (d : Division) (few : sheet .agents ≤ mostAgents) 
   abbrev m : ℕ
   m = sheet .items
 
-  length-agentLine : (i : ℕ) → Mem i (range 1 n) → length (agentLine sheet d i) ≤ longestYard
+  length-agentLine : (i : ℕ) → Mem i (range 1 n) → length (agentLine sheet d i) ≤ longestPrintedYard
   length-agentLine i in-use =
       let b = range-bounds 1 n in-use in
       let partition = nth [] (d .cuts) i in
       omega (
         arith,
-        length-yardLine m few-items (p .of-items i in-use) i (nth 0 (d .worths) i) (nth 0 (d .shares) i) (allBundles n m partition) (omega arith) (worth-small i in-use) (share-small i in-use),
+        length-printedYard m few-items (p .of-items i in-use) i (nth 0 (d .worths) i) (nth 0 (d .shares) i) (allBundles n m partition) (omega arith) (worth-small i in-use) (share-small i in-use),
         length-cut n m partition few few-items (p .entry-each i in-use),
       )
 
@@ -64,7 +64,7 @@ module _ (sheet : Contents) (d : Division) (few : sheet .agents ≤ mostAgents) 
   length-printed =
       omega (
         arith,
-        length-allLines n m (d .grade) (agentLine sheet d) (cuttersLine (d .cutters)) longestYard (omega arith) (omega arith) (p .one-digit) length-agentLine,
-        mul-le-mul-right longestYard few,
+        length-allLines n m (d .grade) (agentLine sheet d) (cuttersLine (d .cutters)) longestPrintedYard (omega arith) (omega arith) (p .one-digit) length-agentLine,
+        mul-le-mul-right longestPrintedYard few,
         length-cuttersLine n (d .cutters) few (p .cutters-within) (p .few-cutters),
       )

@@ -10,7 +10,7 @@ use Rattle.lists.specs.Lists.{range, nth, Within}
 use Rattle.lists.proofs.ranges.Ranges.{length-range, mem-within, nth-map-range}
 use Rattle.lists.proofs.members.Counting.{sublist-mem}
 use Rattle.sheet.specs.Valuations.{itemValue}
-use Rattle.sheet.specs.Tables.{valuation, allValues}
+use Rattle.sheet.specs.Tables.{valuationOf, allValues}
 use Rattle.sheet.specs.Contents.{Contents, valuationsOf}
 use Rattle.sheet.proofs.valuing.Tables.{length-profile}
 use Rattle.maximin.specs.Share.{maximinShare, maximinPartition}
@@ -72,7 +72,7 @@ module _ (sheet : Contents) (some : 1 ≤ sheet .agents) where
         share-each = length-map (valuationsOf sheet) (maximinShare n) ∙ length-profile n m (sheet .table);
         cut-each = length-map (valuationsOf sheet) (maximinPartition n) ∙ length-profile n m (sheet .table);
         of-items = λ i in-use. rw (nth-map-range (held (allRounds n m G)) [] n in-use) (held-sublist G n (range 1 n) (range 1 m) i);
-        entry-each = λ i in-use. let row = valuation (sheet .table) i in ap length (nth-cuts n m (sheet .table) in-use) ∙ maximinPartition-within n (allValues m row) some .1 ∙ all-values row;
+        entry-each = λ i in-use. let row = valuationOf (sheet .table) i in ap length (nth-cuts n m (sheet .table) in-use) ∙ maximinPartition-within n (allValues m row) some .1 ∙ all-values row;
         cutters-within = mem-within n (map (λ r. r .cutter) (allRounds n m G)) cutter-in-range;
         few-cutters = rw (length-map (allRounds n m G) (λ r. r .cutter)) (rounds-few G n (range 1 n) (range 1 m));
         one-digit = omega (arith, grade-bounds n (valuationsOf sheet) (G .shares) (allocationAssessment n m G .margins) (allocation n m G));

@@ -12,7 +12,7 @@ use Rattle.rounds.specs.Division.{answer}
 use Rattle.shares.specs.Shares.{standardAllowance}
 use Rattle.rounds.specs.SampleSheets.{starred, samples}
 use Rattle.rounds.proofs.Samples.{samples-hold}
-use Rattle.printing.specs.Printed.{headLine, pileGroup, amounts, cutGroup, yardLine, cuttersLine, allLines, printed}
+use Rattle.printing.specs.Printed.{headLine, pileGroup, worthAndShare, cutGroup, printedYard, cuttersLine, allLines, printed}
 use Rattle.printing.specs.Printing.{printing}
 
 -- the texts of division's samples, in the same order
@@ -64,7 +64,7 @@ texts =
     ∷ []
 
 texts-printed : map (λ s. filling 255 (printed (s .sheet) (s .division))) samples ≡ map accepted texts
-unfolding texts starred flatMap printed allLines headLine pileGroup amounts cutGroup yardLine cuttersLine digitsIn decimal spacedNumbers
+unfolding texts starred flatMap printed allLines headLine pileGroup worthAndShare cutGroup printedYard cuttersLine digitsIn decimal spacedNumbers
 texts-printed = refl
 
 -- the tables of the samples are printed so; a buffer of 255 bytes has room for each

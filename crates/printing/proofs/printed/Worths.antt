@@ -7,7 +7,7 @@ use Rattle.lists.specs.Lists.{range, nth}
 use Rattle.lists.proofs.ranges.Ranges.{range-bounds, nth-map-range}
 use Rattle.sheet.specs.Answers.{accepted}
 use Rattle.sheet.specs.Valuations.{value}
-use Rattle.sheet.specs.Tables.{valuation}
+use Rattle.sheet.specs.Tables.{valuationOf}
 use Rattle.sheet.specs.Contents.{Contents, valuationsOf}
 use Rattle.sheet.proofs.valuing.Tables.{value-profile}
 use Rattle.grades.specs.Grade.{valueTo}
@@ -17,7 +17,7 @@ use Rattle.printing.proofs.printed.Printable.{divisionByRounds-printabl
 
 module _ (sheet : Contents) {i : ℕ} (in-use : Mem i (range 1 (sheet .agents))) where
   -- of the division by the rounds
-  pub divisionByRounds-worth : nth 0 (divisionByRounds sheet .worths) i ≡ value (valuation (sheet .table) i) (nth [] (divisionByRounds sheet .bundles) i)
+  pub divisionByRounds-worth : nth 0 (divisionByRounds sheet .worths) i ≡ value (valuationOf (sheet .table) i) (nth [] (divisionByRounds sheet .bundles) i)
   unfolding divisionOf
   divisionByRounds-worth =
       let of-items = divisionByRounds-printable sheet (omega (arith, range-bounds 1 (sheet .agents) in-use)) .of-items i in-use in
@@ -25,5 +25,5 @@ module _ (sheet : Contents) {i : ℕ} (in-use : Mem i (range 1 (sheet .agents)))
       nth-map-range (λ k. valueTo (valuationsOf sheet) bundles k k) 0 (sheet .agents) in-use ∙ value-profile (sheet .agents) (sheet .items) (sheet .table) in-use of-items
 
   -- of every division that is answered
-  pub worth-by-own-marks : (allowance : ℕ) (d : Division) → answer sheet allowance ≡ accepted d → nth 0 (d .worths) i ≡ value (valuation (sheet .table) i) (nth [] (d .bundles) i)
+  pub worth-by-own-marks : (allowance : ℕ) (d : Division) → answer sheet allowance ≡ accepted d → nth 0 (d .worths) i ≡ value (valuationOf (sheet .table) i) (nth [] (d .bundles) i)
   worth-by-own-marks allowance d divided = rw (answer-accepted sheet allowance d divided .0) divisionByRounds-worth

@@ -10,7 +10,7 @@ use lib.Dec.{leb, ltb}
 use lib.ListN.{length}
 use borrow.Author.Needs.{needs}
 use borrow.Author.Tests.{lt-leb, le-leb, lt-ltb, not-true, not-false}
-use Rattle.sheet.specs.Limits.{longestText, mostAgents, mostItems, markDigits, within, agentsAllowed, itemsAllowed}
+use Rattle.sheet.specs.Limits.{longestText, mostAgents, mostItems, markDigits, agentsAllowed, itemsAllowed}
 use Rattle.sheet.specs.Answers
 use Rattle.sheet.proofs.Limits.{within-bounds}
 use Rattle.tokens.specs.Tokens.{tokens}

@@ -13,7 +13,7 @@ use Rattle.maximin.specs.Share.{bundleValue, leastBundle, maximinShare, maximin
 use Rattle.maximin.proofs.Laws.{leastBundle-le-maximinShare, maximinPartition-within, leastBundle-maximinPartition}
 use Rattle.terms.specs.declared.Terms.{Terms}
 use Rattle.rounds.proofs.density.Deficit.{deficit, deficit-le-total}
-use Rattle.rounds.proofs.density.Partition.{IsPartition, empty, place, isPartition-length, isPartition-within, within-isPartition}
+use Rattle.rounds.proofs.density.Partition.{PartitionByItems, empty, place, partitionByItems-length, partitionByItems-within, within-partitionByItems}
 use Rattle.rounds.proofs.density.Regroup.{bundleValues, length-bundleValues, refines-bundleValues, total-bundleValues-le}
 use Rattle.terms.specs.Allowed.{AtMostStandard}
 use Rattle.rounds.proofs.density.Terms.{top, bottom, Reaches, reaches-mono, reaches-terms, supply-terms}
@@ -25,12 +25,12 @@ record Parted (n : ℕ) (l values inside : List ℕ) : Type 0 where
   outside : List ℕ
   inner : List ℕ
   outer : List ℕ
-  inner-partition : IsPartition n inner inside
-  outer-partition : IsPartition n outer outside
+  inner-partition : PartitionByItems n inner inside
+  outer-partition : PartitionByItems n outer outside
   same-total : total inside + total outside ≡ total values
   same-value : (c : ℕ) → bundleValue c inside inner + bundleValue c outside outer ≡ bundleValue c values l
 
-parted : {n : ℕ} {l values inside : List ℕ} → Sublist inside values → IsPartition n l values → Parted n l values inside
+parted : {n : ℕ} {l values inside : List ℕ} → Sublist inside values → PartitionByItems n l values → Parted n l values inside
 parted done empty = record { outside = []; inner = []; outer = []; inner-partition = empty; outer-partition = empty; same-total = refl; same-value = λ c. refl }
 parted (skip s) (place {c = d} {x} h k r) =
     let p = parted s r in
@@ -69,7 +69,7 @@ splits-share : {N β n : ℕ} {values : List ℕ} → 1 ≤ n → Splits N β n 
 splits-share {N} {β} {n} {values} h s =
     let (c, lo, hi, least) = leastOf-attained (λ d. bundleValue d values (s .partition)) n h in
     let r = s .is-partition in
-    reaches-mono N β (le-trans (le-of-eq least) (leastBundle-le-maximinShare n values (s .partition) (isPartition-within r) (isPartition-length r))) (s .reaches c lo hi)
+    reaches-mono N β (le-trans (le-of-eq least) (leastBundle-le-maximinShare n values (s .partition) (partitionByItems-within r) (partitionByItems-length r))) (s .reaches c lo hi)
 
 -- n bundles of N = n + m, by allowed terms
 module _ (N n m : ℕ) (terms : Terms) (allowed : AtMostStandard N terms) (some-agents : 1 ≤ n) (of-all : n + m ≡ N) where
@@ -86,8 +86,8 @@ module _ (N n m : ℕ) (terms : Terms) (allowed : AtMostStandard N terms) (some-
       l : List ℕ
       l = maximinPartition N values
 
-      best : IsPartition N l values
-      best = let w = maximinPartition-within N values (omega arith) in within-isPartition l values (w .0) (w .1)
+      best : PartitionByItems N l values
+      best = let w = maximinPartition-within N values (omega arith) in within-partitionByItems l values (w .0) (w .1)
 
       p : Parted N l values inside
       p = parted s best

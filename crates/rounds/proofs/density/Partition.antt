@@ -15,27 +15,27 @@ use Rattle.lists.proofs.Cases.{eq-or-ne}
 use Rattle.maximin.specs.Share.{bundleValue}
 
 -- l gives each of the values the number of a bundle, from 1 to n
-pub data IsPartition (n : ℕ) : List ℕ → List ℕ → Type 0 where
-  empty : IsPartition n [] []
-  place : {c x : ℕ} {l values : List ℕ} → 1 ≤ c → c ≤ n → IsPartition n l values → IsPartition n (c ∷ l) (x ∷ values)
+pub data PartitionByItems (n : ℕ) : List ℕ → List ℕ → Type 0 where
+  empty : PartitionByItems n [] []
+  place : {c x : ℕ} {l values : List ℕ} → 1 ≤ c → c ≤ n → PartitionByItems n l values → PartitionByItems n (c ∷ l) (x ∷ values)
 
-pub isPartition-length : {n : ℕ} {l values : List ℕ} → IsPartition n l values → length l ≡ length values
-isPartition-length empty = refl
-isPartition-length (place h k r) = ap suc (isPartition-length r)
+pub partitionByItems-length : {n : ℕ} {l values : List ℕ} → PartitionByItems n l values → length l ≡ length values
+partitionByItems-length empty = refl
+partitionByItems-length (place h k r) = ap suc (partitionByItems-length r)
 
-pub isPartition-within : {n : ℕ} {l values : List ℕ} → IsPartition n l values → Within n l
-isPartition-within empty = tt
-isPartition-within (place h k r) = (h, k, isPartition-within r)
+pub partitionByItems-within : {n : ℕ} {l values : List ℕ} → PartitionByItems n l values → Within n l
+partitionByItems-within empty = tt
+partitionByItems-within (place h k r) = (h, k, partitionByItems-within r)
 
-pub within-isPartition : {n : ℕ} (l values : List ℕ) → Within n l → length l ≡ length values → IsPartition n l values
-within-isPartition [] [] w e = empty
-within-isPartition [] (x ∷ values) w e = absurd (omega arith)
-within-isPartition (c ∷ l) [] w e = absurd (omega arith)
-within-isPartition (c ∷ l) (x ∷ values) w e = place (w .0) (w .1) (within-isPartition l values (w .2) (omega arith))
+pub within-partitionByItems : {n : ℕ} (l values : List ℕ) → Within n l → length l ≡ length values → PartitionByItems n l values
+within-partitionByItems [] [] w e = empty
+within-partitionByItems [] (x ∷ values) w e = absurd (omega arith)
+within-partitionByItems (c ∷ l) [] w e = absurd (omega arith)
+within-partitionByItems (c ∷ l) (x ∷ values) w e = place (w .0) (w .1) (within-partitionByItems l values (w .2) (omega arith))
 
-pub isPartition-weaken : {n m : ℕ} {l values : List ℕ} → n ≤ m → IsPartition n l values → IsPartition m l values
-isPartition-weaken le empty = empty
-isPartition-weaken le (place h k r) = place h (le-trans k le) (isPartition-weaken le r)
+pub partitionByItems-weaken : {n m : ℕ} {l values : List ℕ} → n ≤ m → PartitionByItems n l values → PartitionByItems m l values
+partitionByItems-weaken le empty = empty
+partitionByItems-weaken le (place h k r) = place h (le-trans k le) (partitionByItems-weaken le r)
 
 -- x where c and d are the same bundle, and 0 where not
 abbrev pub valueIf : ℕ → ℕ → ℕ → ℕ
@@ -67,7 +67,7 @@ bundleValue-le-total c (x ∷ values) (d ∷ l) = add-le-add (valueIf-le c d x) 
 abbrev pub oneBundle : List ℕ → List ℕ
 oneBundle values = map (λ x. 1) values
 
-pub oneBundle-partition : {n : ℕ} (values : List ℕ) → 1 ≤ n → IsPartition n (oneBundle values) values
+pub oneBundle-partition : {n : ℕ} (values : List ℕ) → 1 ≤ n → PartitionByItems n (oneBundle values) values
 oneBundle-partition [] h = empty
 oneBundle-partition (x ∷ values) h = place (le-refl 1) h (oneBundle-partition values h)
 

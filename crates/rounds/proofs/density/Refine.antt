@@ -5,16 +5,16 @@ use Prim.Native.Nat.{ℕ, _+_}
 use native.Mathlib.Omega.{arith}
 use Rattle.maximin.specs.Share.{bundleValue}
 use Rattle.maximin.proofs.AnyOrder.{perm-relaid}
-use Rattle.rounds.proofs.density.Partition.{IsPartition, place, isPartition-length, isPartition-within, within-isPartition, valueIf-add}
+use Rattle.rounds.proofs.density.Partition.{PartitionByItems, place, partitionByItems-length, partitionByItems-within, within-partitionByItems, valueIf-add}
 
 -- a partition of the fine list into n bundles that have the values of the partition l of the coarse list
 pub record Realised (n : ℕ) (l coarse fine : List ℕ) : Type 0 where
   pub partition : List ℕ
-  pub is-partition : IsPartition n partition fine
+  pub is-partition : PartitionByItems n partition fine
   pub same-value : (c : ℕ) → bundleValue c fine partition ≡ bundleValue c coarse l
 
 abbrev pub Refines : List ℕ → List ℕ → Type 0
-Refines coarse fine = (n : ℕ) (l : List ℕ) → IsPartition n l coarse → Realised n l coarse fine
+Refines coarse fine = (n : ℕ) (l : List ℕ) → PartitionByItems n l coarse → Realised n l coarse fine
 
 pub refines-trans : {xs ys zs : List ℕ} → Refines xs ys → Refines ys zs → Refines xs zs
 refines-trans f g n l r =
@@ -30,5 +30,5 @@ refines-merge x y xs n l₀ (place {c = d} {l} h k r) =
 -- the values in another order
 pub perm-refines : {xs ys : List ℕ} → Perm xs ys → Refines xs ys
 perm-refines {ys = ys} p n l r =
-    let t = perm-relaid n p l (isPartition-within r) (isPartition-length r) in
-    record { partition = t .laid; is-partition = within-isPartition (t .laid) ys (t .within) (t .whole); same-value = t .worth }
+    let t = perm-relaid n p l (partitionByItems-within r) (partitionByItems-length r) in
+    record { partition = t .laid; is-partition = within-partitionByItems (t .laid) ys (t .within) (t .whole); same-value = t .worth }

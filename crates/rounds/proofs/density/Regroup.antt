@@ -11,7 +11,7 @@ use Rattle.lists.specs.Lists.{range}
 use Rattle.lists.specs.Sums.{total}
 use Rattle.lists.proofs.ranges.Ranges.{range-bounds, length-range}
 use Rattle.maximin.specs.Share.{bundleValue}
-use Rattle.rounds.proofs.density.Partition.{IsPartition, empty, place, isPartition-length, valueIf, valueIf-same, valueIf-other, valueIf-le, valueIf-add, bundleValue-le-total, oneBundle, oneBundle-partition, bundleValue-oneBundle}
+use Rattle.rounds.proofs.density.Partition.{PartitionByItems, empty, place, partitionByItems-length, valueIf, valueIf-same, valueIf-other, valueIf-le, valueIf-add, bundleValue-le-total, oneBundle, oneBundle-partition, bundleValue-oneBundle}
 use Rattle.rounds.proofs.density.Refine.{Refines}
 
 -- the values of the bundles 1 .. n of a partition
@@ -26,14 +26,14 @@ groupOf : ℕ → List ℕ → ℕ → ℕ
 groupOf s [] c = 0
 groupOf s (g ∷ G) c = ite (ℕ-discrete s c) g (groupOf (suc s) G c)
 
-groupOf-range : {n : ℕ} {G hs : List ℕ} (s c : ℕ) → IsPartition n G hs → s ≤ c → c < s + length hs → (1 ≤ groupOf s G c) × (groupOf s G c ≤ n)
+groupOf-range : {n : ℕ} {G hs : List ℕ} (s c : ℕ) → PartitionByItems n G hs → s ≤ c → c < s + length hs → (1 ≤ groupOf s G c) × (groupOf s G c ≤ n)
 unfolding groupOf
 groupOf-range s c empty h k = absurd (omega arith)
 groupOf-range {n} s c (place {c = g} {l = G} h₁ h₂ r) h k =
     elim (ℕ-discrete s c) as (λ d. (1 ≤ ite d g (groupOf (suc s) G c)) × (ite d g (groupOf (suc s) G c) ≤ n))
     [ yes e ↦ (h₁, h₂) | no d ↦ groupOf-range (suc s) c r (omega arith) (omega arith) ]
 
-regroup-partition : {n N : ℕ} {l values G hs : List ℕ} → IsPartition N l values → IsPartition n G hs → length hs ≡ N → IsPartition n (map (groupOf 1 G) l) values
+regroup-partition : {n N : ℕ} {l values G hs : List ℕ} → PartitionByItems N l values → PartitionByItems n G hs → length hs ≡ N → PartitionByItems n (map (groupOf 1 G) l) values
 regroup-partition empty g e = empty
 regroup-partition (place {c} h k r) g e =
     let range = groupOf-range 1 c g h (omega arith) in
@@ -68,23 +68,23 @@ bundleValue-alone x d c s (suc n) (g ∷ G) e h k =
       | no ne ↦ rw (valueIf-other {c = s} {d = d} x ne) (omega (arith, valueIf-le c g 0, bundleValue-alone x d c (suc s) n G (omega arith) (omega arith) (omega arith)))
     ]
 
-bundleValue-regroup : {N : ℕ} {l values : List ℕ} (G : List ℕ) (c : ℕ) → length G ≡ N → IsPartition N l values
+bundleValue-regroup : {N : ℕ} {l values : List ℕ} (G : List ℕ) (c : ℕ) → length G ≡ N → PartitionByItems N l values
     → bundleValue c values (map (groupOf 1 G) l) ≡ bundleValue c (bundleValues N values l) G
 bundleValue-regroup {N} G c e empty = sym (bundleValue-zero c (range 1 N) G (λ i. 0) (λ i m. refl))
 bundleValue-regroup {N} G c e (place {c = d} {x} {l} {values} h k r) =
     ap₂ _+_ (sym (bundleValue-alone x d c 1 N G e h (omega arith))) (bundleValue-regroup G c e r)
     ∙ sym (bundleValue-add c (range 1 N) G (λ i. valueIf i d x) (λ i. bundleValue i values l))
 
-pub refines-bundleValues : {N : ℕ} {l values : List ℕ} → IsPartition N l values → Refines (bundleValues N values l) values
+pub refines-bundleValues : {N : ℕ} {l values : List ℕ} → PartitionByItems N l values → Refines (bundleValues N values l) values
 refines-bundleValues {N} {l} {values} r n G g =
     record {
       partition = map (groupOf 1 G) l;
       is-partition = regroup-partition r g (length-bundleValues N values l);
-      same-value = λ c. bundleValue-regroup G c (isPartition-length g ∙ length-bundleValues N values l) r;
+      same-value = λ c. bundleValue-regroup G c (partitionByItems-length g ∙ length-bundleValues N values l) r;
     }
 
 -- by regrouping the bundles into one
-pub total-bundleValues-le : {n : ℕ} {l values : List ℕ} → IsPartition n l values → total (bundleValues n values l) ≤ total values
+pub total-bundleValues-le : {n : ℕ} {l values : List ℕ} → PartitionByItems n l values → total (bundleValues n values l) ≤ total values
 total-bundleValues-le {n} {l} {values} r =
     let vs = bundleValues n values l in
     let one = refines-bundleValues r 1 (oneBundle vs) (oneBundle-partition vs (le-refl 1)) in

@@ -10,7 +10,7 @@ use lib.ListN.{length}
 use Rattle.lists.specs.Sums.{total}
 use Rattle.maximin.specs.Share.{bundleValue}
 use Rattle.rounds.proofs.density.Deficit.{deficit}
-use Rattle.rounds.proofs.density.Partition.{IsPartition, empty, place, isPartition-weaken, valueIf-same, oneBundle, oneBundle-partition, bundleValue-oneBundle}
+use Rattle.rounds.proofs.density.Partition.{PartitionByItems, empty, place, partitionByItems-weaken, valueIf-same, oneBundle, oneBundle-partition, bundleValue-oneBundle}
 use Rattle.rounds.proofs.density.Sort.{Ascending, none, next}
 use Rattle.rounds.proofs.density.Refine.{Refines, refines-merge}
 use Rattle.rounds.proofs.density.Terms.{top, bottom, Reaches, Short, reaches-mono, short-mono, reaches-of-le, Lacks, lacks-one, lacks-two}
@@ -18,7 +18,7 @@ use Rattle.rounds.proofs.density.Terms.{top, bottom, Reaches, Short, re
 -- a partition of hs into n groups that all reach the part
 pub record Splits (N β n : ℕ) (hs : List ℕ) : Type 0 where
   pub partition : List ℕ
-  pub is-partition : IsPartition n partition hs
+  pub is-partition : PartitionByItems n partition hs
   pub reaches : (g : ℕ) → 1 ≤ g → g ≤ n → Reaches N β (bundleValue g hs partition)
 
 -- the members taken two by two, each two with a sum of at least b
@@ -43,7 +43,7 @@ module _ {N β : ℕ} where
   splits-single {n} {hs} x h s =
       record {
         partition = suc n ∷ s .partition;
-        is-partition = place {c = suc n} (omega arith) (le-refl (suc n)) (isPartition-weaken (omega arith) (s .is-partition));
+        is-partition = place {c = suc n} (omega arith) (le-refl (suc n)) (partitionByItems-weaken (omega arith) (s .is-partition));
         reaches = λ g h₁ h₂.
             by-cases (ℕ-discrete g (suc n))
             (λ e. let all = valueIf-same x e in reaches-mono N β {s = x} (omega arith) h)

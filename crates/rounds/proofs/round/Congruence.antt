@@ -16,12 +16,12 @@ use Rattle.matching.specs.Matching.{servedAgents, cutterOf, bundleNumbers, wait
 use Rattle.matching.proofs.Cutter.{cutterOf-mem}
 use Rattle.matching.proofs.Parts.{waitingOf-cong, chosenOf-cong}
 use Rattle.matching.proofs.Congruence.{Agree}
-use Rattle.rounds.specs.Round.{Round, Instance, suits, suitsIn, cutBy, round, rounds}
+use Rattle.rounds.specs.Round.{Round, Instance, itemsSuit, suitsIn, cutBy, round, rounds}
 use Rattle.rounds.proofs.round.Parts.{cutterCut, waiting-sub, left-sub}
 
 -- the same bundles of the items suit the agents, and each of these cuts every part of the items alike
 pub record Alike (G H : Instance) (agents items : List ℕ) : Type 0 where
-  pub same-suiting : (agent : ℕ) → Mem agent agents → (part : List ℕ) → Sublist part items → suits G agent part ≡ suits H agent part
+  pub same-suiting : (agent : ℕ) → Mem agent agents → (part : List ℕ) → Sublist part items → itemsSuit G agent part ≡ itemsSuit H agent part
   pub same-cuts : (agent : ℕ) → Mem agent agents → (n : ℕ) (part : List ℕ) → Sublist part items → cutBy G agent n part ≡ cutBy H agent n part
 
 module _ (agents items l : List ℕ) where

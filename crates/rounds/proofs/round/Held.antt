@@ -38,35 +38,35 @@ given-holds P agent (a ∷ served) (b ∷ bundles) later each last = elim (eqb a
 
 -- each bundle suits the agent at its place, and there is one for each agent: `suited` of matching as a type, of bundles in the place of their numbers
 abbrev pub AllSuit : (ℕ → List ℕ → Bool) → List ℕ → List (List ℕ) → Type 0
-AllSuit suits [] [] = Unit {0}
-AllSuit suits [] (b ∷ bundles) = ⊥
-AllSuit suits (a ∷ served) [] = ⊥
-AllSuit suits (a ∷ served) (b ∷ bundles) = (suits a b ≡ true) × AllSuit suits served bundles
+AllSuit itemsSuit [] [] = Unit {0}
+AllSuit itemsSuit [] (b ∷ bundles) = ⊥
+AllSuit itemsSuit (a ∷ served) [] = ⊥
+AllSuit itemsSuit (a ∷ served) (b ∷ bundles) = (itemsSuit a b ≡ true) × AllSuit itemsSuit served bundles
 
-pub suited-allSuit : (suits : ℕ → List ℕ → Bool) (bundle : ℕ → List ℕ) (served chosen : List ℕ)
-    → suited (λ a c. suits a (bundle c)) served chosen ≡ true → AllSuit suits served (map bundle chosen)
-suited-allSuit suits bundle [] [] each = tt
-suited-allSuit suits bundle [] (c ∷ chosen) each = absurd (false≢true each)
-suited-allSuit suits bundle (a ∷ served) [] each = absurd (false≢true each)
-suited-allSuit suits bundle (a ∷ served) (c ∷ chosen) each =
-    let (first, rest) = and-eq-true-iff (suits a (bundle c)) (suited (λ a c. suits a (bundle c)) served chosen) .0 each in
-    (first, suited-allSuit suits bundle served chosen rest)
+pub suited-allSuit : (itemsSuit : ℕ → List ℕ → Bool) (bundle : ℕ → List ℕ) (served chosen : List ℕ)
+    → suited (λ a c. itemsSuit a (bundle c)) served chosen ≡ true → AllSuit itemsSuit served (map bundle chosen)
+suited-allSuit itemsSuit bundle [] [] each = tt
+suited-allSuit itemsSuit bundle [] (c ∷ chosen) each = absurd (false≢true each)
+suited-allSuit itemsSuit bundle (a ∷ served) [] each = absurd (false≢true each)
+suited-allSuit itemsSuit bundle (a ∷ served) (c ∷ chosen) each =
+    let (first, rest) = and-eq-true-iff (itemsSuit a (bundle c)) (suited (λ a c. itemsSuit a (bundle c)) served chosen) .0 each in
+    (first, suited-allSuit itemsSuit bundle served chosen rest)
 
-pub allSuit-length : (suits : ℕ → List ℕ → Bool) (served : List ℕ) (bundles : List (List ℕ)) → AllSuit suits served bundles → length bundles ≡ length served
-allSuit-length suits [] [] each = refl
-allSuit-length suits [] (b ∷ bundles) each = absurd each
-allSuit-length suits (a ∷ served) [] each = absurd each
-allSuit-length suits (a ∷ served) (b ∷ bundles) each = ap suc (allSuit-length suits served bundles (each .1))
+pub allSuit-length : (itemsSuit : ℕ → List ℕ → Bool) (served : List ℕ) (bundles : List (List ℕ)) → AllSuit itemsSuit served bundles → length bundles ≡ length served
+allSuit-length itemsSuit [] [] each = refl
+allSuit-length itemsSuit [] (b ∷ bundles) each = absurd each
+allSuit-length itemsSuit (a ∷ served) [] each = absurd each
+allSuit-length itemsSuit (a ∷ served) (b ∷ bundles) each = ap suc (allSuit-length itemsSuit served bundles (each .1))
 
 -- an agent that is served is given a bundle that suits it
-pub given-suits : (suits : ℕ → List ℕ → Bool) (agent : ℕ) (served : List ℕ) (bundles : List (List ℕ)) (later : List ℕ)
-    → AllSuit suits served bundles → Mem agent served → suits agent (given agent served bundles later) ≡ true
-given-suits suits agent [] bundles later each m = absurd (not-nil m)
-given-suits suits agent (a ∷ served) [] later each m = absurd each
-given-suits suits agent (a ∷ served) (b ∷ bundles) later each m = step (eqb agent a) refl (given-suits suits agent served bundles later (each .1))
+pub given-suits : (itemsSuit : ℕ → List ℕ → Bool) (agent : ℕ) (served : List ℕ) (bundles : List (List ℕ)) (later : List ℕ)
+    → AllSuit itemsSuit served bundles → Mem agent served → itemsSuit agent (given agent served bundles later) ≡ true
+given-suits itemsSuit agent [] bundles later each m = absurd (not-nil m)
+given-suits itemsSuit agent (a ∷ served) [] later each m = absurd each
+given-suits itemsSuit agent (a ∷ served) (b ∷ bundles) later each m = step (eqb agent a) refl (given-suits itemsSuit agent served bundles later (each .1))
   where
-    step : (t : Bool) → eqb agent a ≡ t → (Mem agent served → suits agent (given agent served bundles later) ≡ true)
-        → suits agent (cond t b (given agent served bundles later)) ≡ true
+    step : (t : Bool) → eqb agent a ≡ t → (Mem agent served → itemsSuit agent (given agent served bundles later) ≡ true)
+        → itemsSuit agent (cond t b (given agent served bundles later)) ≡ true
     step true e below = rw (eqb-true agent a e) (each .0)
     step false e below = below (⊎-elim (λ d. absurd (true≢false (sym (eq-eqb agent a d) ∙ e))) (λ n. n) (cases-cons m))
 

@@ -18,19 +18,19 @@ use Rattle.lists.proofs.sums.Totals.{sumOver-le, map-sublist}
 use Rattle.sheet.specs.Valuations.{itemValue, value}
 use Rattle.maximin.specs.Share.{bundleValue, maximinShare}
 use Rattle.maximin.proofs.Laws.{maximinPartition-within, leastBundle-maximinPartition}
-use Rattle.sheet.specs.Tables.{valuation}
+use Rattle.sheet.specs.Tables.{valuationOf}
 use Rattle.sheet.specs.Contents.{sheetOf}
 use Rattle.shares.specs.Shares.{shareOf}
 use Rattle.matching.specs.Matching.{Matched, cutterOf, bundleNumbers, waitingOf, servedOf, freeOf, chosenOf}
 use Rattle.bundling.specs.Bundles.{bundle}
-use Rattle.rounds.specs.Round.{Instance, suits, Round, round}
+use Rattle.rounds.specs.Round.{Instance, itemsSuit, Round, round}
 use Rattle.matching.proofs.Matching.{suited-length}
 use mathlib.Core.List.{map-map}
 use Rattle.bundling.proofs.Bundles.{itemsIn-none}
 use Rattle.bundling.proofs.Sums.{bundleValue-items, sumOver-handed}
 use Rattle.rounds.proofs.round.Held.{AllSuit, suited-allSuit}
 use Rattle.matching.proofs.Cutter.{cutterOf-mem}
-use Rattle.matching.proofs.Serving.{served-or-waiting, free-unsuited, served-matched, none-waiting-all-handed}
+use Rattle.matching.proofs.AllServed.{served-or-waiting, free-unsuited, served-matched, none-waiting-all-handed}
 use Rattle.terms.specs.Allowed.{AtMostStandard}
 use Rattle.rounds.proofs.density.Balance.{density-balance}
 use Rattle.rounds.proofs.round.Parts.{cutterCut, cutSuits, waiting-sub, left-sub}
@@ -42,7 +42,7 @@ pub record Sound (N M : ℕ) (G : Instance) : Type 0 where
 
 -- the value of items to an agent
 abbrev valueTo : Instance → ℕ → List ℕ → ℕ
-valueTo G agent items = value (valuation (G .valuations) agent) items
+valueTo G agent items = value (valuationOf (G .valuations) agent) items
 
 -- top × its share
 abbrev promised : Instance → ℕ → ℕ
@@ -69,14 +69,14 @@ module _ {N M : ℕ} {G : Instance} {agents items : List ℕ} (sound : Sound N M
   abbrev l : List ℕ
   l = cutterCut G agents items
 
-  abbrev suiting : ℕ → ℕ → Bool
-  suiting = cutSuits G agents items
+  abbrev suits : ℕ → ℕ → Bool
+  suits = cutSuits G agents items
 
   abbrev r : Round
   r = round G agents items
 
   abbrev cutter-value : ℕ → ℕ
-  cutter-value = itemValue (valuation (G .valuations) cutter)
+  cutter-value = itemValue (valuationOf (G .valuations) cutter)
 
   cutter-left : Mem cutter agents
   cutter-left = cutterOf-mem agents some
@@ -87,7 +87,7 @@ module _ {N M : ℕ} {G : Instance} {agents items : List ℕ} (sound : Sound N M
   pub served-distinct : distinct (r .served) ≡ true
   unfolding round
   served-distinct =
-      submultiset-distinct (servedOf suiting cutter agents) agents (count-sublist (reject-sublist (λ a. elem a (waitingOf suiting cutter agents)) agents)) agents-distinct
+      submultiset-distinct (servedOf suits cutter agents) agents (count-sublist (reject-sublist (λ a. elem a (waitingOf suits cutter agents)) agents)) agents-distinct
 
   agents-few : n ≤ N
   agents-few = omega (arith, length-sublist (state .of-agents), length-range 1 N)
@@ -107,7 +107,7 @@ module _ {N M : ℕ} {G : Instance} {agents items : List ℕ} (sound : Sound N M
       (rw mine at (state .enough cutter cutter-left)))
 
   -- every bundle of its cut suits the cutter
-  cutter-suited : (c : ℕ) → Mem c (bundleNumbers agents) → suiting cutter c ≡ true
+  cutter-suited : (c : ℕ) → Mem c (bundleNumbers agents) → suits cutter c ≡ true
   cutter-suited c m =
       let (lo, hi) = range-bounds 1 n m in
       let least = leastOf-le (λ d. bundleValue d (map cutter-value items) l) n c lo (omega arith) in
@@ -115,49 +115,49 @@ module _ {N M : ℕ} {G : Instance} {agents items : List ℕ} (sound : Sound N M
       (omega (arith, least, leastBundle-maximinPartition n (map cutter-value items) some, bundleValue-items cutter-value c items l))))
 
   -- the agents served are matched with free bundles
-  pub matched : Matched suiting (servedOf suiting cutter agents) (freeOf suiting cutter agents) (chosenOf suiting cutter agents)
-  matched = served-matched suiting cutter agents cutter-suited
+  pub matched : Matched suits (servedOf suits cutter agents) (freeOf suits cutter agents) (chosenOf suits cutter agents)
+  matched = served-matched suits cutter agents cutter-suited
 
   -- every agent that does not wait is served with a bundle that suits it
-  pub round-suits : AllSuit (suits G) (r .served) (r .bundles)
+  pub round-suits : AllSuit (itemsSuit G) (r .served) (r .bundles)
   unfolding round
-  round-suits = suited-allSuit (suits G) (bundle items l) (servedOf suiting cutter agents) (chosenOf suiting cutter agents) (matched .suits-each)
+  round-suits = suited-allSuit (itemsSuit G) (bundle items l) (servedOf suits cutter agents) (chosenOf suits cutter agents) (matched .suits-each)
 
-  handed-and-left : (w : ℕ → ℕ) → sumOver (λ c. sumOver w (bundle items l c)) (chosenOf suiting cutter agents) + sumOver w (r .left) ≡ sumOver w items
+  handed-and-left : (w : ℕ → ℕ) → sumOver (λ c. sumOver w (bundle items l c)) (chosenOf suits cutter agents) + sumOver w (r .left) ≡ sumOver w items
   unfolding round
-  handed-and-left w = sumOver-handed w (chosenOf suiting cutter agents) items l (matched .injective) (cut-within .1)
+  handed-and-left w = sumOver-handed w (chosenOf suits cutter agents) items l (matched .injective) (cut-within .1)
 
   -- the bundles handed out and what is left are all items
   pub round-items : (w : ℕ → ℕ) → total (map (sumOver w) (r .bundles)) + sumOver w (r .left) ≡ sumOver w items
   unfolding round
   round-items w =
-      ap (λ v. total v + sumOver w (r .left)) (map-map (sumOver w) (bundle items l) (chosenOf suiting cutter agents))
+      ap (λ v. total v + sumOver w (r .left)) (map-map (sumOver w) (bundle items l) (chosenOf suits cutter agents))
       ∙ handed-and-left w
 
   -- where no agent waits, nothing is left
   pub none-waiting-none-left : length (r .waiting) ≡ 0 → r .left ≡ []
   unfolding round
   none-waiting-none-left none =
-      itemsIn-none (λ c. not (elem c (chosenOf suiting cutter agents))) items l
+      itemsIn-none (λ c. not (elem c (chosenOf suits cutter agents))) items l
       (λ c m. ap not (mem-elem (handed c (within-mem n l (cut-within .0) c m))))
     where
-      handed : (c : ℕ) → Mem c (bundleNumbers agents) → Mem c (chosenOf suiting cutter agents)
-      handed = none-waiting-all-handed suiting cutter agents cutter-suited agents-distinct none
+      handed : (c : ℕ) → Mem c (bundleNumbers agents) → Mem c (chosenOf suits cutter agents)
+      handed = none-waiting-all-handed suits cutter agents cutter-suited agents-distinct none
 
   -- to an agent that waits, what is handed out is worth at most the part top / bottom of its share for each agent served
-  handed-short : (agent : ℕ) → Mem agent (waitingOf suiting cutter agents)
-      → G .terms .bottom * sumOver (λ c. valueTo G agent (bundle items l c)) (chosenOf suiting cutter agents) ≤ length (chosenOf suiting cutter agents) * promised G agent
+  handed-short : (agent : ℕ) → Mem agent (waitingOf suits cutter agents)
+      → G .terms .bottom * sumOver (λ c. valueTo G agent (bundle items l c)) (chosenOf suits cutter agents) ≤ length (chosenOf suits cutter agents) * promised G agent
   handed-short agent m =
-      sumOver-le (λ c. valueTo G agent (bundle items l c)) (G .terms .bottom) (promised G agent) (chosenOf suiting cutter agents)
+      sumOver-le (λ c. valueTo G agent (bundle items l c)) (G .terms .bottom) (promised G agent) (chosenOf suits cutter agents)
       (λ c mc. le-of-lt (leb-false (promised G agent) (G .terms .bottom * valueTo G agent (bundle items l c))
-      (free-unsuited suiting cutter agents agent c m (matched .from-bundles c mc))))
+      (free-unsuited suits cutter agents agent c m (matched .from-bundles c mc))))
 
-  agents-gone : N - length (waitingOf suiting cutter agents) ≡ (N - n) + length (chosenOf suiting cutter agents)
+  agents-gone : N - length (waitingOf suits cutter agents) ≡ (N - n) + length (chosenOf suits cutter agents)
   agents-gone = omega (
     arith,
     agents-few,
-    served-or-waiting suiting cutter agents agents-distinct,
-    suited-length suiting (servedOf suiting cutter agents) (chosenOf suiting cutter agents) (matched .suits-each),
+    served-or-waiting suits cutter agents agents-distinct,
+    suited-length suits (servedOf suits cutter agents) (chosenOf suits cutter agents) (matched .suits-each),
   )
 
   -- the invariant is kept
@@ -167,16 +167,16 @@ module _ {N M : ℕ} {G : Instance} {agents items : List ℕ} (sound : Sound N M
       record {
         of-agents = sublist-trans (waiting-sub G agents items) (state .of-agents);
         of-items = sublist-trans (left-sub G agents items) (state .of-items);
-        enough = λ agent m. rw (agents-gone, add-mul (N - n) (length (chosenOf suiting cutter agents)) (promised G agent)) (kept agent m);
+        enough = λ agent m. rw (agents-gone, add-mul (N - n) (length (chosenOf suits cutter agents)) (promised G agent)) (kept agent m);
       }
     where
-      kept : (agent : ℕ) → Mem agent (waitingOf suiting cutter agents)
+      kept : (agent : ℕ) → Mem agent (waitingOf suits cutter agents)
           → G .terms .bottom * valueTo G agent (range 1 M)
-          ≤ G .terms .bottom * valueTo G agent (r .left) + ((N - n) * promised G agent + length (chosenOf suiting cutter agents) * promised G agent)
+          ≤ G .terms .bottom * valueTo G agent (r .left) + ((N - n) * promised G agent + length (chosenOf suits cutter agents) * promised G agent)
       kept agent m = omega (
         arith,
         state .enough agent (sublist-mem (waiting-sub G agents items) m),
         handed-short agent m,
-        mul-add (G .terms .bottom) (sumOver (λ c. valueTo G agent (bundle items l c)) (chosenOf suiting cutter agents)) (valueTo G agent (r .left)),
-        ap (λ v. G .terms .bottom * v) (handed-and-left (itemValue (valuation (G .valuations) agent))),
+        mul-add (G .terms .bottom) (sumOver (λ c. valueTo G agent (bundle items l c)) (chosenOf suits cutter agents)) (valueTo G agent (r .left)),
+        ap (λ v. G .terms .bottom * v) (handed-and-left (itemValue (valuationOf (G .valuations) agent))),
       )

@@ -14,7 +14,7 @@ use Rattle.bundling.specs.Bundles.{bundle}
 use Rattle.rounds.specs.Round.{Instance, suitsIn, cutBy, Round, round}
 use Rattle.bundling.proofs.Bundles.{itemsIn-sublist}
 use Rattle.matching.proofs.Cutter.{cutterOf-mem}
-use Rattle.matching.proofs.Serving.{waiting-sublist, waiting-fewer}
+use Rattle.matching.proofs.AllServed.{waiting-sublist, waiting-fewer}
 
 module _ (G : Instance) (agents items : List ℕ) where
   -- the cutter's cut of the items left into as many bundles as there are agents left

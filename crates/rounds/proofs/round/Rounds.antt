@@ -12,7 +12,7 @@ use Rattle.lists.specs.Sums.{total, sumOver}
 use Rattle.lists.specs.Lists.{elem}
 use Rattle.lists.proofs.members.Distinct.{mem-elem, elem-mem, filter-elem}
 use Rattle.lists.proofs.sums.Totals.{sumOver-none, sumOver-filter, sumOver-cong}
-use Rattle.rounds.specs.Round.{Instance, suits, Round, round, rounds, given, held}
+use Rattle.rounds.specs.Round.{Instance, itemsSuit, Round, round, rounds, given, held}
 use Rattle.rounds.proofs.round.Held.{given-later, given-holds, allSuit-length, given-suits, sumOver-given}
 use Rattle.rounds.proofs.round.Parts.{waiting-sub, waiting-falls, left-sub, bundles-sub, served-parts, waiting-not-served, not-waiting-served}
 use Rattle.rounds.proofs.round.Invariant.{Sound, Left, agents-distinct, served-distinct, round-suits, round-items, none-waiting-none-left, left-next}
@@ -65,7 +65,7 @@ module _ {N M : ℕ} {G : Instance} (sound : Sound N M G) where
 
   -- what an agent holds suits it
   pub held-suits : (most : ℕ) (agents items : List ℕ) → length agents ≤ most → Left N M G agents items
-      → (agent : ℕ) → Mem agent agents → suits G agent (held (rounds G most agents items) agent) ≡ true
+      → (agent : ℕ) → Mem agent agents → itemsSuit G agent (held (rounds G most agents items) agent) ≡ true
   unfolding rounds held
   held-suits zero [] items few state agent m = absurd (not-nil m)
   held-suits zero (a ∷ agents) items few state agent m = absurd (omega arith)
@@ -80,9 +80,9 @@ module _ {N M : ℕ} {G : Instance} (sound : Sound N M G) where
       later : List ℕ
       later = held (rounds G most (r .waiting) (r .left)) agent
 
-      step : (b : Bool) → elem agent (r .waiting) ≡ b → (Mem agent (r .waiting) → suits G agent later ≡ true) → suits G agent (given agent (r .served) (r .bundles) later) ≡ true
+      step : (b : Bool) → elem agent (r .waiting) ≡ b → (Mem agent (r .waiting) → itemsSuit G agent later ≡ true) → itemsSuit G agent (given agent (r .served) (r .bundles) later) ≡ true
       step true e below = rw (given-later agent (r .served) (r .bundles) later (waiting-not-served G (a ∷ agents) items agent e)) (below (elem-mem agent (r .waiting) e))
-      step false e below = given-suits (suits G) agent (r .served) (r .bundles) later (round-suits sound (omega arith) state) (not-waiting-served G (a ∷ agents) items agent m e)
+      step false e below = given-suits (itemsSuit G) agent (r .served) (r .bundles) later (round-suits sound (omega arith) state) (not-waiting-served G (a ∷ agents) items agent m e)
 
   -- one round: what the agents are given is all items, where what those who wait hold later is all that is left
   given-all : (w : ℕ → ℕ) (agents items : List ℕ) (later : ℕ → List ℕ) → 1 ≤ length agents → Left N M G agents items
@@ -104,7 +104,7 @@ module _ {N M : ℕ} {G : Instance} (sound : Sound N M G) where
 
       of-served : sumOver get (r .served) ≡ total (map (sumOver w) (r .bundles))
       of-served =
-          sumOver-given (sumOver w) (r .served) (r .bundles) later (served-distinct sound some state) (allSuit-length (suits G) (r .served) (r .bundles) (round-suits sound some state))
+          sumOver-given (sumOver w) (r .served) (r .bundles) later (served-distinct sound some state) (allSuit-length (itemsSuit G) (r .served) (r .bundles) (round-suits sound some state))
 
       of-waiting : sumOver get (r .waiting) ≡ sumOver (λ agent. sumOver w (later agent)) (r .waiting)
       of-waiting =

@@ -10,7 +10,7 @@ use Rattle.lists.specs.Lists.{bit, nth, count, elem}
 use Rattle.lists.proofs.ranges.Ranges.{in-range, nth-mem}
 use Rattle.lists.proofs.members.Counting.{reject-mem, sublist-mem, count-none}
 use Rattle.lists.proofs.members.Distinct.{mem-elem, elem-mem, not-mem-elem}
-use Rattle.rounds.specs.Round.{Instance, suits, Round, round, rounds, given, held}
+use Rattle.rounds.specs.Round.{Instance, itemsSuit, Round, round, rounds, given, held}
 use Rattle.rounds.proofs.round.Held.{given-later, allSuit-length, given-at}
 use Rattle.rounds.proofs.round.Parts.{waiting-sub, waiting-falls, served-parts, waiting-not-served, not-waiting-served}
 use Rattle.rounds.proofs.round.Invariant.{Sound, Left, served-distinct, round-suits, left-next}
@@ -66,7 +66,7 @@ module _ {N M : ℕ} {G : Instance} (sound : Sound N M G) where
   given-at-place agents items later some state k lo hi =
       let r = round G agents items in
       given-at (r .served) (r .bundles) later (served-distinct sound some state)
-      (allSuit-length (suits G) (r .served) (r .bundles) (round-suits sound some state)) (k - 1) (omega arith)
+      (allSuit-length (itemsSuit G) (r .served) (r .bundles) (round-suits sound some state)) (k - 1) (omega arith)
 
   -- in all rounds it holds that bundle
   pub held-at-place : (most : ℕ) (agents items : List ℕ) → Left N M G agents items → (r : Round) → Mem r (rounds G most agents items)

@@ -16,7 +16,7 @@ use Rattle.sheet.specs.Sets.{itemsOf, setOf}
 use Rattle.sheet.proofs.sets.Sets.{items-setOf}
 use Rattle.sheet.proofs.sets.Ranges.{setOf-below}
 use Rattle.matching.specs.Matching.{waitingOf, servedOf, freeOf, chosenOf}
-use Rattle.matching.proofs.Serving.{waiting-sublist}
+use Rattle.matching.proofs.AllServed.{waiting-sublist}
 use Rattle.matching.proofs.Parts.{servedOf-sublist, freeOf-sublist, chosenOf-within, chosenOf-few}
 use Rattle.serving.specs.Serving.{agentsIn}
 use Rattle.serving.proofs.round.AgentsLeft.{agentsIn-items}

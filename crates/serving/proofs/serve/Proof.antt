@@ -25,7 +25,7 @@ abbrev left : tie.Start → List ℕ
 left s = agentsIn (s .args .left)
 
 abbrev suits : tie.Start → ℕ → ℕ → Bool
-suits s = suitsOf (s .args .suits)
+suits s = suitsOf (s .args .suiting)
 
 left-rising : (s : tie.Start) → Sublist (left s) (range 1 mostAgents)
 left-rising s = agentsIn-sublist (s .args .left)

@@ -32,5 +32,5 @@ module _ (suits : ℕ → ℕ → Bool) where
     pub injective : distinct chosen ≡ true
 
   -- the first matching that begins with the bundles chosen
-  unfoldable pub firstMatching : List ℕ → List ℕ → List ℕ → List ℕ
+  unfoldable pub firstMatching : (served free chosen : List ℕ) → List ℕ
   firstMatching served free chosen = firstThat (matches suits served) (begun chosen (listsOver free (length served - length chosen)))

@@ -8,7 +8,7 @@ use Rattle.sheet.specs.Limits.{mostItems}
 use Rattle.sheet.specs.Answers.{accepted}
 use Rattle.sheet.specs.Tables.{allValues}
 use Rattle.maximin.specs.Share.{maximinShare}
-use Rattle.cut.specs.Outcome.{cutting, wholeCut, outcome}
+use Rattle.cut.specs.Outcome.{cutting, wholeCut, outcome as cutOutcome}
 use Rattle.shares.specs.declared.OwnCut.{OwnCut}
 use Rattle.shares.proofs.Marks.{marks-small, share-small}
 use Rattle.shares.proofs.EachAgent.{cutting-all}
@@ -17,13 +17,13 @@ use Rattle.shares.proofs.own_cut.Statement.{statement}
 use Rattle.shares.proofs.own_cut.Tie as tie
 
 -- the cut is neither refused nor stopped
-told : (c : tie.After-cut) → let a = c .before .before .args in c .cut .result ≡ outcome (accepted (wholeCut (a .bundles) (allValues (a .items) (a .valuation))))
+told : (c : tie.After-cut) → let a = c .before .before .args in c .cut .result ≡ cutOutcome (accepted (wholeCut (a .bundles) (allValues (a .items) (a .valuation))))
 told c =
     let s = c .before .before in
     let a = s .args in
     c .cut .ensures
-    ∙ ap (λ set. outcome (cutting (a .valuation) set (a .bundles) (a .allowance))) (c .before .all-items .ensures)
-    ∙ ap outcome (cutting-all (a .valuation) (a .bundles) (a .items) (a .allowance) (s .pre .0) (s .pre .1))
+    ∙ ap (λ set. cutOutcome (cutting (a .valuation) set (a .bundles) (a .allowance))) (c .before .all-items .ensures)
+    ∙ ap cutOutcome (cutting-all (a .valuation) (a .bundles) (a .items) (a .allowance) (s .pre .0) (s .pre .1))
 
 -- the answer that the code makes
 made : ℕ → List ℕ → OwnCut

@@ -11,7 +11,7 @@ use Rattle.lists.proofs.places.Padding.{padded-range}
 use Rattle.lists.proofs.places.Places.{nth-next, store-small}
 use Rattle.sheet.specs.Limits.{mostAgents, greatestSum}
 use Rattle.sheet.specs.Contents.{sheetOf}
-use Rattle.sheet.specs.Tables.{valuation, allValues}
+use Rattle.sheet.specs.Tables.{valuationOf, allValues}
 use Rattle.sheet.specs.Amounts.{SmallAmounts}
 use Rattle.shares.specs.Shares.{shareOf}
 use Rattle.shares.specs.Outcome.{blankCut}
@@ -36,7 +36,7 @@ head c = c .before .before .before
 -- the share and the cut of agent i + 1
 own-read : (c : tie.After-own-cut Inv-loop μ-loop)
     → let a = head c .before .args in
-    c .own-cut .result ≡ ownCut (a .agents) (allValues (a .items) (valuation (a .t1) (head c .loop .i + 1)))
+    c .own-cut .result ≡ ownCut (a .agents) (allValues (a .items) (valuationOf (a .t1) (head c .loop .i + 1)))
 own-read c =
     let a = head c .before .args in
     let i = head c .loop .i in

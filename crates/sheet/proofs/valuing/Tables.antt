@@ -13,25 +13,25 @@ use Rattle.lists.proofs.members.Counting.{sublist-mem, length-sublist}
 use Rattle.lists.proofs.sums.Totals.{map-cong, sumOver-le}
 use Rattle.sheet.specs.Limits.{mostItems, greatestMark}
 use Rattle.sheet.specs.Valuations.{itemValue, value}
-use Rattle.sheet.specs.Tables.{valuation, allValues, profile, AgreeInUse}
+use Rattle.sheet.specs.Tables.{valuationOf, allValues, profile, AgreeInUse}
 
 -- a row for each of n agents
 pub length-profile : (n m : ℕ) (table : List (List ℕ)) → length (profile n m table) ≡ n
 unfolding profile
-length-profile n m table = length-map (range 1 n) (λ i. allValues m (valuation table i)) ∙ length-range 1 n
+length-profile n m table = length-map (range 1 n) (λ i. allValues m (valuationOf table i)) ∙ length-range 1 n
 
 module _ (n m : ℕ) (table : List (List ℕ)) {agent : ℕ} (in-use : Mem agent (range 1 n)) where
-  pub valuation-profile : valuation (profile n m table) agent ≡ allValues m (valuation table agent)
+  pub valuationOf-profile : valuationOf (profile n m table) agent ≡ allValues m (valuationOf table agent)
   unfolding profile
-  valuation-profile = nth-map-range (λ i. allValues m (valuation table i)) [] n in-use
+  valuationOf-profile = nth-map-range (λ i. allValues m (valuationOf table i)) [] n in-use
 
-  pub itemValue-profile : (k : ℕ) → Mem k (range 1 m) → itemValue (valuation (profile n m table) agent) k ≡ itemValue (valuation table agent) k
-  itemValue-profile k mk = ap (λ row. itemValue row k) valuation-profile ∙ nth-map-range (itemValue (valuation table agent)) 0 m mk
+  pub itemValue-profile : (k : ℕ) → Mem k (range 1 m) → itemValue (valuationOf (profile n m table) agent) k ≡ itemValue (valuationOf table agent) k
+  itemValue-profile k mk = ap (λ row. itemValue row k) valuationOf-profile ∙ nth-map-range (itemValue (valuationOf table agent)) 0 m mk
 
-  pub values-profile : {items : List ℕ} → Sublist items (range 1 m) → map (itemValue (valuation (profile n m table) agent)) items ≡ map (itemValue (valuation table agent)) items
-  values-profile {items} s = map-cong (itemValue (valuation (profile n m table) agent)) (itemValue (valuation table agent)) items (λ k mk. itemValue-profile k (sublist-mem s mk))
+  pub values-profile : {items : List ℕ} → Sublist items (range 1 m) → map (itemValue (valuationOf (profile n m table) agent)) items ≡ map (itemValue (valuationOf table agent)) items
+  values-profile {items} s = map-cong (itemValue (valuationOf (profile n m table) agent)) (itemValue (valuationOf table agent)) items (λ k mk. itemValue-profile k (sublist-mem s mk))
 
-  pub value-profile : {items : List ℕ} → Sublist items (range 1 m) → value (valuation (profile n m table) agent) items ≡ value (valuation table agent) items
+  pub value-profile : {items : List ℕ} → Sublist items (range 1 m) → value (valuationOf (profile n m table) agent) items ≡ value (valuationOf table agent) items
   value-profile s = ap total (values-profile s)
 
 module _ (m : ℕ) (row : List ℕ) {items : List ℕ} (s : Sublist items (range 1 m)) where
@@ -47,6 +47,6 @@ module _ (m : ℕ) (row : List ℕ) {items : List ℕ} (s : Sublist items (range
 pub profile-agree : (n m : ℕ) (table table′ : List (List ℕ)) → AgreeInUse n m table table′ → profile n m table ≡ profile n m table′
 unfolding profile
 profile-agree n m table table′ same =
-    map-cong (λ i. allValues m (valuation table i)) (λ i. allValues m (valuation table′ i)) (range 1 n)
-    (λ agent ma. map-cong (itemValue (valuation table agent)) (itemValue (valuation table′ agent)) (range 1 m)
+    map-cong (λ i. allValues m (valuationOf table i)) (λ i. allValues m (valuationOf table′ i)) (range 1 n)
+    (λ agent ma. map-cong (itemValue (valuationOf table agent)) (itemValue (valuationOf table′ agent)) (range 1 m)
     (λ k mk. let a = range-bounds 1 n ma in let b = range-bounds 1 m mk in same agent k (a .0) (omega arith) (b .0) (omega arith)))

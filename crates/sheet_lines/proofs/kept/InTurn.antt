@@ -17,7 +17,7 @@ use Rattle.sheet_lines.specs.Grammar.{marks, yardLine, yardLines, body}
 use Rattle.sheet_lines.specs.Marks.{allowed, allowedRow}
 use Rattle.sheet_lines.specs.Kept.{yard, blankYards, reduced}
 use Rattle.sheet_lines.specs.Results.{unreadBody, bodyFrom}
-use Rattle.sheet_lines.specs.internal.Results.{unreadLine, lineFrom}
+use Rattle.sheet_lines.specs.internal.Results.{unreadMarks, marksFrom}
 use Rattle.sheet_lines.specs.declared.yards.Yard.{Yard}
 use Rattle.sheet_lines.specs.declared.yards.Line.{Line}
 use Rattle.sheet_lines.specs.declared.body.Body.{Body}
@@ -28,7 +28,7 @@ abbrev pub rowRead : Bool → List ℕ → Cursor → Line
 rowRead passed row next = record { read = true; allowed = passed; row = row; next = next }
 
 abbrev pub marksStored : Storing ℕ ℕ Line
-marksStored = record { reader = λ piece. number markDigits; stored = reduced; test = allowed greatestMark; missed = unreadLine; done = rowRead }
+marksStored = record { reader = λ piece. number markDigits; stored = reduced; test = allowed greatestMark; missed = unreadMarks; done = rowRead }
 
 -- the yard lines
 abbrev pub yardsRead : Bool → List Yard → Cursor → Body
@@ -45,7 +45,7 @@ linesStored items =
     }
 
 module _ (s : List ℕ) (c : Cursor) (items : ℕ) (ts : List Token) where
-  pub no-mark-stored : items ≤ mostItems → lineFrom s c (marks markDigits items ts) ≡ storedFrom marksStored s c items 0 blankRow true ts
+  pub no-mark-stored : items ≤ mostItems → marksFrom s c (marks markDigits items ts) ≡ storedFrom marksStored s c items 0 blankRow true ts
   no-mark-stored few = none-stored marksStored s c items mostItems 0 ts few
 
   pub no-line-stored : (agents : ℕ) → agents ≤ mostAgents → bodyFrom s c (body markDigits agents items ts) ≡ storedFrom (linesStored items) s c agents 0 blankYards true ts

@@ -15,13 +15,13 @@ use Rattle.sheet_lines.specs.Kept.{reduced}
 use Rattle.sheet_lines.specs.declared.yards.Line.{Line}
 
 -- a line that is not as it should be gives nothing
-abbrev pub unreadLine : Line
-unreadLine = record { read = false; allowed = false; row = blankRow; next = start }
+abbrev pub unreadMarks : Line
+unreadMarks = record { read = false; allowed = false; row = blankRow; next = start }
 
 -- another gives whether all its marks are allowed, and the row of them
-abbrev pub readLine : List ℕ → Cursor → Line
-readLine marks next = record { read = true; allowed = allowedRow greatestMark marks; row = padded mostItems 0 (map reduced marks); next = next }
+abbrev pub readMarks : List ℕ → Cursor → Line
+readMarks marks next = record { read = true; allowed = allowedRow greatestMark marks; row = padded mostItems 0 (map reduced marks); next = next }
 
 -- the marks of a line
-abbrev pub lineFrom : List ℕ → Cursor → Option (List ℕ × List Token) → Line
-lineFrom s c o = answerFrom unreadLine readLine s c o
+abbrev pub marksFrom : List ℕ → Cursor → Option (List ℕ × List Token) → Line
+marksFrom s c o = answerFrom unreadMarks readMarks s c o

@@ -13,7 +13,7 @@ use Rattle.writing.specs.Answered.{answered}
 use Rattle.division_reading.specs.Grammar.{divisionText}
 use Rattle.stated_truth.specs.Lines.{statedIn}
 use Rattle.sheet_to_judgement.specs.TextJudged.{textJudged, judgementFrom}
-use Rattle.sheet_to_judgement.specs.internal.Printing.{printing}
+use Rattle.sheet_to_judgement.specs.internal.Printing.{printingJudgement}
 use Rattle.sheet_to_judgement.proofs.StatedBack.{stated-kept}
 use Rattle.sheet_to_judgement.proofs.Front.{refused-front, accepted-front, front-counts}
 use borrow.Author.Needs.{needs}
@@ -44,8 +44,8 @@ unfolding judgementFrom textJudged
 refused-judged text room number e = rw e
 
 accepted-judged : (text : List ℕ) (room : ℕ) (sheet : Contents) (behind : List Token) → readingFront text ≡ accepted (sheet, behind)
-    → judgementFrom text room ≡ printing sheet (divisionText (sheet .agents) (sheet .items) behind) room
-unfolding judgementFrom textJudged printing
+    → judgementFrom text room ≡ printingJudgement sheet (divisionText (sheet .agents) (sheet .items) behind) room
+unfolding judgementFrom textJudged printingJudgement
 accepted-judged text room sheet behind read = rw read
 
 returns : tie.Need-returns
@@ -74,8 +74,8 @@ returns-2 c =
     let front = accepted-front (a .text .now) (at-read .read-front .ensures) (at-answer .answer2 .given .1) (at-table .table .ensures) in
     let stated : statedIn (counts .agents) (at-division .read-division .result) ≡ divisionText (counts .agents) (counts .items) behind =
     ap (statedIn (counts .agents)) (at-division .read-division .ensures) ∙ stated-kept (counts .agents) (counts .items) (few .few-items) (few .few) behind in
-    let same : printing (contents counts table) (statedIn (counts .agents) (at-division .read-division .result)) room ≡ judgementFrom (a .text .now) room =
-    ap (λ d. printing (contents counts table) d room) stated ∙ sym (accepted-judged (a .text .now) room (contents counts table) behind front) in
+    let same : printingJudgement (contents counts table) (statedIn (counts .agents) (at-division .read-division .result)) room ≡ judgementFrom (a .text .now) room =
+    ap (λ d. printingJudgement (contents counts table) d room) stated ∙ sym (accepted-judged (a .text .now) room (contents counts table) behind front) in
     (at-print .print-judged .ensures .0 ∙ ap answered same, at-print .print-judged .ensures .1 ∙ ap (λ p. after filled p (a .buffer .now)) same)
 
 pub judge-division-spec : {M : Type 1} → statement M

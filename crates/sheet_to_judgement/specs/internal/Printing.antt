@@ -10,5 +10,5 @@ use Rattle.stated_truth.specs.Judging.{judging}
 use Rattle.sheet_to_judgement.specs.AcceptedText.{acceptedText}
 
 -- the text for what a division of the sheet states, in a buffer of so many bytes
-unfoldable pub printing : Contents → Option Stated → ℕ → Answer (List ℕ)
-printing sheet stated room = andThen (judging sheet stated) (λ margins. filling room (acceptedText margins))
+unfoldable pub printingJudgement : Contents → Option Stated → ℕ → Answer (List ℕ)
+printingJudgement sheet stated room = andThen (judging sheet stated) (λ margins. filling room (acceptedText margins))

@@ -8,7 +8,7 @@ use borrow.Author.Tests.{not-true, not-false}
 use Rattle.lists.specs.Lists.{range, nth, all}
 use Rattle.lists.proofs.places.Places.{nth-next}
 use Rattle.lists.proofs.members.Tests.{all-next, all-fails}
-use Rattle.sheet.specs.Tables.{valuation}
+use Rattle.sheet.specs.Tables.{valuationOf}
 use Rattle.division_reading.specs.declared.StatedLine.{StatedLine}
 use Rattle.stated_truth.specs.Lines.{noLine, statedLine, lineTrueTo}
 use Rattle.stated_figures.proofs.lines_true.Statement.{statement}
@@ -16,7 +16,7 @@ use Rattle.stated_figures.proofs.lines_true.Tie as tie
 
 -- whether line k is true
 abbrev trueAt : ℕ → ℕ → List (List ℕ) → List ℕ → List StatedLine → ℕ → Bool
-trueAt n m table shares lines k = lineTrueTo n m (valuation table k) (nth 0 shares k) (statedLine n (nth noLine lines k))
+trueAt n m table shares lines k = lineTrueTo n m (valuationOf table k) (nth 0 shares k) (statedLine n (nth noLine lines k))
 
 abbrev Inv-loop : tie.InvT-loop
 Inv-loop agents items table shares lines i₀ i = (i ≤ agents) × (all (trueAt agents items table shares lines) (range 1 i) ≡ true)

@@ -6,7 +6,7 @@ use mathlib.Core.Bool.{Bool, true, false, cond}
 use Prim.Native.Nat.{ℕ, suc, _+_, _≤_, _<_}
 use lib.ListN.{length, getD, drop}
 use Rattle.tokens.specs.Tokens.{isWordByte}
-use Rattle.tokens.specs.After.{isDelimiter, countsForNothing}
+use Rattle.tokens.specs.TokensAfter.{isDelimiter, countsForNothing}
 use Rattle.tokeniser.specs.NextToken.{blanks}
 
 -- the bytes from `at` to `i` belong to the remark that begins at `at`: nothing of them counts

@@ -9,7 +9,7 @@ use lib.Dec.{eqb}
 use borrow.Author.Tests.{eqb-true, not-true}
 use Rattle.tokens.specs.Lines.{lineFeed, space, semicolon}
 use Rattle.tokens.specs.Tokens.{isWordByte, goesOn, extended}
-use Rattle.tokens.specs.After.{tokensAfter}
+use Rattle.tokens.specs.TokensAfter.{tokensAfter}
 use Rattle.tokens.specs.Respaced.{noLineFeed}
 use Rattle.tokens.proofs.texts.Kinds.{Kind, is-space, is-line-feed, is-semicolon, is-bracket, is-word-byte, kind}
 use Rattle.tokens.proofs.texts.Bytewise.{tokensAfter-space, tokensAfter-line-feed, tokensAfter-blank-line, tokensAfter-remark-end, tokensAfter-remark-line-feed, tokensAfter-remark-byte}

@@ -18,17 +18,17 @@ record LinesTo (s : List ℕ) : Type 0 where
 lines-after-byte : (b : ℕ) (s : List ℕ) (test : Bool) → eqb b lineFeed ≡ test → LinesTo s → LinesTo (b ∷ s)
 unfolding lines onFirst
 lines-after-byte b s true e later =
-    record { first = record { content = []; ended = true }; others = later .first ∷ later .others; split = λ t. rw (e, later .split t) }
+    record { first = record { content = []; terminated = true }; others = later .first ∷ later .others; split = λ t. rw (e, later .split t) }
 lines-after-byte b s false e later =
     record {
-      first = record { content = b ∷ later .first .content; ended = later .first .ended };
+      first = record { content = b ∷ later .first .content; terminated = later .first .terminated };
       others = later .others;
       split = λ t. rw (e, later .split t);
     }
 
 lines-to : (s : List ℕ) → LinesTo s
 unfolding lines
-lines-to [] = record { first = record { content = []; ended = true }; others = []; split = λ t. refl }
+lines-to [] = record { first = record { content = []; terminated = true }; others = []; split = λ t. refl }
 lines-to (b ∷ s) = lines-after-byte b s (eqb b lineFeed) refl (lines-to s)
 
 -- the tokens of lines

@@ -9,7 +9,7 @@ use borrow.Author.Tests.{eqb-true}
 use Rattle.lists.specs.Lists.{consIf}
 use Rattle.tokens.specs.Lines.{lineFeed, space, semicolon, Line, onFirst, lines, beforeRemark, withoutRemark, linesWithoutRemarks, isBlank, withoutBlankLines}
 use Rattle.tokens.specs.Tokens.{Token, isBracket, isWordByte, goesOn, extended, words, lineTokens, tokens, ended}
-use Rattle.tokens.specs.After.{leftAfter, tokensAfter}
+use Rattle.tokens.specs.TokensAfter.{leftAfter, tokensAfter}
 
 -- a line that has not begun is kept as every other one: the tokens of a text
 leftAfter-fresh : (ls : List Line) → leftAfter false ls ≡ withoutBlankLines ls
@@ -47,7 +47,7 @@ tokensOn-space false [] = refl
 tokensOn-space true (l ∷ ls) = refl
 tokensOn-space false (l ∷ ls) = go (not (isBlank l))
   where
-    go : (kept : Bool) → flatMap lineTokens (consIf kept (record { content = space ∷ l .content; ended = l .ended }) (withoutBlankLines ls)) ≡ flatMap lineTokens (consIf kept l (withoutBlankLines ls))
+    go : (kept : Bool) → flatMap lineTokens (consIf kept (record { content = space ∷ l .content; terminated = l .terminated }) (withoutBlankLines ls)) ≡ flatMap lineTokens (consIf kept l (withoutBlankLines ls))
     go true = refl
     go false = refl
 
@@ -141,16 +141,16 @@ module _ (b : ℕ) (n : eqb b space ≡ false) where
       go false true e = extended-append b (words c) us (words-goesOn c e)
       go false false e = refl
 
-  kept : (begun : Bool) (c : List ℕ) (e : Bool) (ls : List Line) → leftAfter begun (record { content = b ∷ c; ended = e } ∷ ls) ≡ record { content = b ∷ c; ended = e } ∷ withoutBlankLines ls
+  kept : (begun : Bool) (c : List ℕ) (e : Bool) (ls : List Line) → leftAfter begun (record { content = b ∷ c; terminated = e } ∷ ls) ≡ record { content = b ∷ c; terminated = e } ∷ withoutBlankLines ls
   kept begun c e ls = rw (n, or-true begun)
 
   tokensOn-token : (begun : Bool) (ls : List Line) → tokensOn begun (onFirst b ls) ≡ cond (isBracket b || not (goesOn (firstContent ls))) ((b ∷ []) ∷ tokensOn true ls) (extended b (tokensOn true ls))
   unfolding onFirst lineTokens flatMap words
   tokensOn-token begun [] = rw (kept begun [] false []) (append-nil _ ∙ line-token [] [])
   tokensOn-token begun (l ∷ ls) =
-      let end = cond (l .ended) ((lineFeed ∷ []) ∷ []) [] in
+      let end = cond (l .terminated) ((lineFeed ∷ []) ∷ []) [] in
       let later = flatMap lineTokens (withoutBlankLines ls) in
-      rw (kept begun (l .content) (l .ended) ls, append-assoc (words (l .content)) end later)
+      rw (kept begun (l .content) (l .terminated) ls, append-assoc (words (l .content)) end later)
       (append-assoc (words (b ∷ l .content)) end later ∙ line-token (l .content) (end ++ later))
 
   pub tokensAfter-token : (begun : Bool) (bs : List ℕ) → eqb b lineFeed ≡ false → eqb b semicolon ≡ false

@@ -7,7 +7,7 @@ use lib.Dec.{eqb}
 use Rattle.lists.specs.Lists.{all}
 use Rattle.tokens.specs.Lines.{lineFeed, space, semicolon}
 use Rattle.tokens.specs.Tokens.{Token, isBracket, isWordByte, goesOn, extended, tokens, ended}
-use Rattle.tokens.specs.After.{tokensAfter}
+use Rattle.tokens.specs.TokensAfter.{tokensAfter}
 use Rattle.tokens.proofs.texts.Kinds.{Kind, is-space, is-line-feed, is-semicolon, is-bracket, is-word-byte, kind, word-byte, bracket}
 use Rattle.tokens.proofs.texts.Bytewise.{tokensAfter-fresh, tokensAfter-nil, tokensAfter-space, tokensAfter-line-feed, tokensAfter-blank-line, extended-append}
 use Rattle.tokens.proofs.texts.Words.{bracket-token, last-of-word, front-of-word, token-begins}

@@ -13,17 +13,17 @@ use Rattle.lists.proofs.members.Each.{all-append}
 use Rattle.lists.proofs.members.FlatMap.{flatten-append}
 use Rattle.tokens.specs.Lines.{lineFeed, space, Line, onFirst, lines, linesWithoutRemarks, isBlank, withoutBlankLines}
 use Rattle.tokens.specs.Tokens.{Token, words, lineTokens, tokens}
-use Rattle.tokens.specs.Tokenised.{Tokenised, hasByte, withoutSpaces, bytesOf}
+use Rattle.tokens.specs.Tokenised.{Tokenised, hasByte, withoutSpaces, lineBytes}
 use Rattle.tokens.proofs.texts.Tokenised.{lines-tokenised}
 use Rattle.tokens.proofs.texts.LineTokens.{no-token-is-empty, no-token-holds-a-space, tokens-joined}
 
 -- the lines of a text, with the line feeds that end them, are the text
-pub lines-joined : (s : List ℕ) → flatMap bytesOf (lines s) ≡ s
+pub lines-joined : (s : List ℕ) → flatMap lineBytes (lines s) ≡ s
 unfolding lines onFirst flatMap
 lines-joined [] = refl
 lines-joined (b ∷ s) = go (eqb b lineFeed) refl (lines s) (lines-joined s)
   where
-    go : (p : Bool) → eqb b lineFeed ≡ p → (ls : List Line) → flatMap bytesOf ls ≡ s → flatMap bytesOf (cond p (record { content = []; ended = true } ∷ ls) (onFirst b ls)) ≡ b ∷ s
+    go : (p : Bool) → eqb b lineFeed ≡ p → (ls : List Line) → flatMap lineBytes ls ≡ s → flatMap lineBytes (cond p (record { content = []; terminated = true } ∷ ls) (onFirst b ls)) ≡ b ∷ s
     go true e ls later = ap₂ (λ c cs. c ∷ cs) (sym (eqb-true b lineFeed e)) later
     go false e [] later = ap (λ cs. b ∷ cs) later
     go false e (l ∷ ls) later = ap (λ cs. b ∷ cs) later
@@ -32,27 +32,27 @@ lines-joined (b ∷ s) = go (eqb b lineFeed) refl (lines s) (lines-joined s)
 abbrev AllTokenised : List Line → Type 0
 AllTokenised ls = (l : Line) → Mem l ls → Tokenised (l .content) (words (l .content))
 
-line-joined : (l : Line) → Tokenised (l .content) (words (l .content)) → flatten (lineTokens l) ≡ withoutSpaces (bytesOf l)
+line-joined : (l : Line) → Tokenised (l .content) (words (l .content)) → flatten (lineTokens l) ≡ withoutSpaces (lineBytes l)
 unfolding lineTokens flatten
 line-joined l d =
-    flatten-append (words (l .content)) _ ∙ ap₂ _++_ (tokens-joined d) (ending (l .ended)) ∙ sym (filter-append (λ b. not (eqb b space)) (l .content) _)
+    flatten-append (words (l .content)) _ ∙ ap₂ _++_ (tokens-joined d) (ending (l .terminated)) ∙ sym (filter-append (λ b. not (eqb b space)) (l .content) _)
   where
     ending : (e : Bool) → flatten (cond e ((lineFeed ∷ []) ∷ []) []) ≡ withoutSpaces (cond e (lineFeed ∷ []) [])
     ending true = refl
     ending false = refl
 
-all-joined : (ls : List Line) → AllTokenised ls → flatten (flatMap lineTokens ls) ≡ withoutSpaces (flatMap bytesOf ls)
+all-joined : (ls : List Line) → AllTokenised ls → flatten (flatMap lineTokens ls) ≡ withoutSpaces (flatMap lineBytes ls)
 unfolding flatMap flatten
 all-joined [] h = refl
 all-joined (l ∷ ls) h =
     flatten-append (lineTokens l) (flatMap lineTokens ls) ∙ ap₂ _++_ (line-joined l (h l (here refl))) (all-joined ls (λ k m. h k (there m)))
-    ∙ sym (filter-append (λ b. not (eqb b space)) (bytesOf l) (flatMap bytesOf ls))
+    ∙ sym (filter-append (λ b. not (eqb b space)) (lineBytes l) (flatMap lineBytes ls))
 
 -- so it does of each line that is left of a text
 left-tokenised : (s : List ℕ) → AllTokenised (withoutBlankLines (linesWithoutRemarks s))
 left-tokenised s l m = lines-tokenised s (reject-mem isBlank (linesWithoutRemarks s) m .0)
 
-pub tokens-of-text-joined : (s : List ℕ) → flatten (tokens s) ≡ withoutSpaces (flatMap bytesOf (withoutBlankLines (linesWithoutRemarks s)))
+pub tokens-of-text-joined : (s : List ℕ) → flatten (tokens s) ≡ withoutSpaces (flatMap lineBytes (withoutBlankLines (linesWithoutRemarks s)))
 unfolding tokens
 tokens-of-text-joined s = all-joined (withoutBlankLines (linesWithoutRemarks s)) (left-tokenised s)
 
@@ -63,7 +63,7 @@ module _ (p : Token → Bool) (line-feed-passes : p (lineFeed ∷ []) ≡ true) 
   all-pass [] h = refl
   all-pass (l ∷ ls) h =
       all-append p (lineTokens l) (flatMap lineTokens ls)
-      (all-append p (words (l .content)) _ (mem-all p (words (l .content)) (λ t m. passes (l .content) (words (l .content)) (h l (here refl)) t m)) (ending (l .ended)))
+      (all-append p (words (l .content)) _ (mem-all p (words (l .content)) (λ t m. passes (l .content) (words (l .content)) (h l (here refl)) t m)) (ending (l .terminated)))
       (all-pass ls (λ k m. h k (there m)))
     where
       ending : (e : Bool) → all p (cond e ((lineFeed ∷ []) ∷ []) []) ≡ true

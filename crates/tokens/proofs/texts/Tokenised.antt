@@ -50,7 +50,7 @@ lines-hold-no-line-feed [] = tt
 lines-hold-no-line-feed (b ∷ s) = go (eqb b lineFeed) refl (lines s) (lines-hold-no-line-feed s)
   where
     go : (p : Bool) → eqb b lineFeed ≡ p → (ls : List Line) → Each (λ l. noLineFeed (l .content) ≡ true) ls
-        → Each (λ l. noLineFeed (l .content) ≡ true) (cond p (record { content = []; ended = true } ∷ ls) (onFirst b ls))
+        → Each (λ l. noLineFeed (l .content) ≡ true) (cond p (record { content = []; terminated = true } ∷ ls) (onFirst b ls))
     go true e ls h = (refl, h)
     go false e [] h = (rw e, tt)
     go false e (l ∷ ls) h = (rw e (h .0), h .1)

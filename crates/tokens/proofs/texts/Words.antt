@@ -9,7 +9,7 @@ use lib.Dec.{eqb}
 use borrow.Author.Tests.{eqb-true}
 use Rattle.tokens.specs.Lines.{lineFeed, space, semicolon}
 use Rattle.tokens.specs.Tokens.{isBracket, isWordByte, goesOn, extended, ended}
-use Rattle.tokens.specs.After.{tokensAfter, isDelimiter, countsForNothing}
+use Rattle.tokens.specs.TokensAfter.{tokensAfter, isDelimiter, countsForNothing}
 use Rattle.tokens.proofs.texts.Kinds.{word-byte, bracket}
 use Rattle.tokens.proofs.texts.Bytewise.{tokensAfter-line-feed, extended-not-ended, tokensAfter-token}
 

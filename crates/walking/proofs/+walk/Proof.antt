@@ -16,7 +16,7 @@ use Rattle.lists.proofs.sums.LeastOf.{leastOf-le}
 use Rattle.growth.specs.Growth.{growthFrom}
 use Rattle.lists.specs.Sums.{total, leastOf}
 use Rattle.sheet.specs.Limits.{mostAgents, mostItems, greatestSum}
-use Rattle.reach.specs.Loads.{loadOf, inUse}
+use Rattle.reach.specs.Loads.{loadOf, limitedBundles}
 use Rattle.reach.specs.Pruning.{greatestValue, GreatestFrom, isOutOfReach}
 use Rattle.walk_steps.specs.Scan.{looking, passing}
 use Rattle.walk_steps.specs.Branches.{countAt}
@@ -131,7 +131,7 @@ module _ (t : ℕ) where
       let a = s .args in
       let r = s .pre .1 .0 in
       let none : a .values .now ≡ [] = empty (a .values .now) (omega arith) in
-      let all : inUse (a .bundles) ≡ a .bundles = omega (arith, r .some-bundles, r .few-bundles) in
+      let all : limitedBundles (a .bundles) ≡ a .bundles = omega (arith, r .some-bundles, r .few-bundles) in
       let least = leastOf (loadOf (a .loads .now)) (a .bundles) in
       let is-least : c .before .before .least .result ≡ least = c .before .before .least .ensures ∙ ap (leastOf (loadOf (a .loads .now))) all in
       let small : least ≤ greatestSum = omega (arith, r .sums-bounded 0, leastOf-le (loadOf (a .loads .now)) (a .bundles) 1 (omega arith) (r .some-bundles)) in

@@ -5,7 +5,7 @@ use native.Mathlib.Omega.{arith}
 use lib.ListN.{length}
 use borrow.Author.Needs.{needs}
 use Rattle.sheet.specs.Limits.{mostAgents, mostItems}
-use Rattle.walking.specs.Walk.{Counted, searching, searchingAfter}
+use Rattle.walking.specs.Walk.{Counted, finding, findingAfter}
 use Rattle.walking.proofs.Limits.{table-counts}
 use Rattle.walking.proofs.find_after.Statement.{statement}
 use Rattle.walking.proofs.find_after.Tie as tie
@@ -39,13 +39,13 @@ find-by-requires-2 c κs =
     counted table (length (start table .args .values .now)) (omega (arith, table .before .greater .ensures))
 
 returns : tie.Need-returns
-unfolding searchingAfter
+unfolding findingAfter
 returns c =
     let worked-out = c .before .before in
     let first = worked-out .before .before in
     let a = start (first .before .before) .args in
     let least = worked-out .one-less .ensures ∙ ap (λ found. found .best .goal - 1) (first .find-by .ensures) in
-    c .find-by2 .ensures ∙ ap (λ least. searching (a .values .now) (a .bundles) least least (a .allowance)) least
+    c .find-by2 .ensures ∙ ap (λ least. finding (a .values .now) (a .bundles) least least (a .allowance)) least
 
 pub find-after-spec : {M : Type 1} → statement M
 find-after-spec =

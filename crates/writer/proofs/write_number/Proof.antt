@@ -37,7 +37,7 @@ use denote.Exit.{yes}
 use denote.Signature.{plain}
 use Rattle.writer.specs.declared.Writer.{Writer}
 use Rattle.writing.specs.Output.{output}
-use Rattle.writer.specs.After.{after}
+use Rattle.writer.specs.WithText.{withText}
 use Rattle.text.specs.Decimal.{spacedNumber}
 use Rattle.writing.proofs.Written.{length-foldl-withByte}
 use Rattle.writer.proofs.Writer as T
@@ -70,8 +70,8 @@ module _ {M : Type 1} (𝓤 : URA M) (H : Heap 𝓤) (A : Atoms 𝓤) (mem : Mem
 
   -- what `number` ensures, which has no last value
   number-tells : (κ : Lft) (h : Writer) (v : ℕ) (r : Writer)
-      → ent 𝓤 (ensured 𝓤 H A number.ended (number.clauses 𝓤 H A mem run) (κ, tt) (h, (v, tt)) tt r) (fact 𝓤 (r ≡ after h (spacedNumber v)))
-  number-tells κ h v r = exE 𝓤 _ (λ ws. snd∗ 𝓤 (sem 𝓤 H A (lasts number.ended (κ, tt) (h, (v, tt)) ws)) (fact 𝓤 (r ≡ after h (spacedNumber v))))
+      → ent 𝓤 (ensured 𝓤 H A number.ended (number.clauses 𝓤 H A mem run) (κ, tt) (h, (v, tt)) tt r) (fact 𝓤 (r ≡ withText h (spacedNumber v)))
+  number-tells κ h v r = exE 𝓤 _ (λ ws. snd∗ 𝓤 (sem 𝓤 H A (lasts number.ended (κ, tt) (h, (v, tt)) ws)) (fact 𝓤 (r ≡ withText h (spacedNumber v))))
 
 module _ {M : Type 1} (𝓤 : URA M) (H : Heap 𝓤) (A : Atoms 𝓤) (W : Given 𝓤 H A) (mem : Memory → SProp 𝓤) (run : Routine → Fun 𝓤) (κ : Lft) (q : Share)
     (b o : ℕ) (γ : GName) (ys : List ℕ) (u v : ℕ) (u-fits : u < 2 ^ 64) (v-fits : v < 2 ^ 64) where
@@ -83,7 +83,7 @@ module _ {M : Type 1} (𝓤 : URA M) (H : Heap 𝓤) (A : Atoms 𝓤) (W : Given
   h₀ = record { buffer = x; at = u }
 
   abbrev h₁ : Writer
-  h₁ = after h₀ (spacedNumber v)
+  h₁ = withText h₀ (spacedNumber v)
 
   abbrev Arg : Type 0
   Arg = RefT (List ℕ) × (ℕ × (ℕ × Unit {0}))

@@ -37,7 +37,7 @@ use denote.Exit.{yes}
 use denote.Signature.{plain}
 use Rattle.writer.specs.declared.Writer.{Writer}
 use Rattle.writing.specs.Output.{output}
-use Rattle.writer.specs.After.{after}
+use Rattle.writer.specs.WithText.{withText}
 use Rattle.writing.proofs.Written.{length-foldl-withByte}
 use Rattle.writer.proofs.Writer as T
 use Rattle.writer.proofs.Value.{α, typed}
@@ -69,8 +69,8 @@ module _ {M : Type 1} (𝓤 : URA M) (H : Heap 𝓤) (A : Atoms 𝓤) (mem : Mem
 
   -- what `word` ensures, which has no last value
   word-tells : (κ κ′ : Lft) (h : Writer) (t : RefT (List ℕ)) (r : Writer)
-      → ent 𝓤 (ensured 𝓤 H A word.ended (word.clauses 𝓤 H A mem run) (κ, (κ′, tt)) (h, (t, tt)) tt r) (fact 𝓤 (r ≡ after h (now t)))
-  word-tells κ κ′ h t r = exE 𝓤 _ (λ ws. snd∗ 𝓤 (sem 𝓤 H A (lasts word.ended (κ, (κ′, tt)) (h, (t, tt)) ws)) (fact 𝓤 (r ≡ after h (now t))))
+      → ent 𝓤 (ensured 𝓤 H A word.ended (word.clauses 𝓤 H A mem run) (κ, (κ′, tt)) (h, (t, tt)) tt r) (fact 𝓤 (r ≡ withText h (now t)))
+  word-tells κ κ′ h t r = exE 𝓤 _ (λ ws. snd∗ 𝓤 (sem 𝓤 H A (lasts word.ended (κ, (κ′, tt)) (h, (t, tt)) ws)) (fact 𝓤 (r ≡ withText h (now t))))
 
 module _ {M : Type 1} (𝓤 : URA M) (H : Heap 𝓤) (A : Atoms 𝓤) (W : Given 𝓤 H A) (mem : Memory → SProp 𝓤) (run : Routine → Fun 𝓤) (κ κ′ : Lft)
     (q q′ : Share) (b o : ℕ) (γ : GName) (ys : List ℕ) (u : ℕ) (t : RefT (List ℕ)) (u-fits : u < 2 ^ 64) where
@@ -86,7 +86,7 @@ module _ {M : Type 1} (𝓤 : URA M) (H : Heap 𝓤) (A : Atoms 𝓤) (W : Given
   h₀ = record { buffer = x; at = u }
 
   abbrev h₁ : Writer
-  h₁ = after h₀ (now t)
+  h₁ = withText h₀ (now t)
 
   abbrev Arg : Type 0
   Arg = RefT (List ℕ) × (ℕ × (RefT (List ℕ) × Unit {0}))

@@ -4,7 +4,7 @@ use Prim.Native.Nat.{_-_}
 use native.Mathlib.Omega.{arith}
 use lib.ListN.{length}
 use Rattle.lists.specs.Sums.{leastOf}
-use Rattle.reach.specs.Loads.{loadOf, inUse}
+use Rattle.reach.specs.Loads.{loadOf, limitedBundles}
 use Rattle.cut.proofs.sharing.Dealt.{Dealt, dealt-start, heavier-le, dealt-next, dealt-end}
 use Rattle.cut.proofs.sharing.deal.Statement.{statement}
 use Rattle.cut.proofs.sharing.deal.Tie as tie
@@ -67,7 +67,7 @@ returns c =
     let l = c .before .before .before .loop in
     let s = c .before .before .before .before .before in
     let a = s .args in
-    let all : inUse (a .bundles) ≡ a .bundles = omega (arith, s .pre .1, s .pre .2) in
+    let all : limitedBundles (a .bundles) ≡ a .bundles = omega (arith, s .pre .1, s .pre .2) in
     omega (arith, c .least .ensures, ap (leastOf (loadOf (l .loads))) all, dealt-end (a .bundles) (a .values .now) (l .loads) (l .i) (l .inv) (omega arith))
 
 pub deal-spec : {M : Type 1} → statement M

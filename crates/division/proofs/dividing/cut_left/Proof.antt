@@ -13,7 +13,7 @@ use Rattle.sheet.specs.Sets.{itemsOf}
 use Rattle.sheet.specs.Valuations.{itemValue, valuesOf}
 use Rattle.growth.specs.Growth.{growths}
 use Rattle.maximin.specs.Share.{maximinPartition}
-use Rattle.cut.specs.Outcome.{outcome, placed}
+use Rattle.cut.specs.Outcome.{outcome as cutOutcome, placed}
 use Rattle.cut.proofs.Allowance.{cutting-shared}
 use Rattle.serving.specs.Serving.{agentsIn}
 use Rattle.serving.proofs.round.AgentsLeft.{agentsIn-sublist, agentsIn-items}
@@ -52,7 +52,7 @@ returns c =
     let count : n ≡ length (agentsIn (a .left)) = ap (λ k. k .count) (at-items .items-of .ensures) ∙ ap length (sym same) in
     let row = getD (a .t1) (a .cutter - 1) [] in
     let enough : growths n (length (valuesOf row (a .set))) ≤ a .allowance = omega (arith, ap₂ growths count (length-map (itemsOf (a .set)) (itemValue row)), s .pre .2) in
-    ap (λ o. o .partition) (c .before .cut .ensures ∙ ap outcome (cutting-shared row (a .set) n (a .allowance) (omega (arith, s .pre .1 .some-left)) (omega (arith, range-sublist-few mostAgents (agentsIn-sublist (a .left)))) (s .pre .1 .small-set) enough))
+    ap (λ o. o .partition) (c .before .cut .ensures ∙ ap cutOutcome (cutting-shared row (a .set) n (a .allowance) (omega (arith, s .pre .1 .some-left)) (omega (arith, range-sublist-few mostAgents (agentsIn-sublist (a .left)))) (s .pre .1 .small-set) enough))
     ∙ ap (λ k. placed (maximinPartition k (map (itemValue row) (itemsOf (a .set))))) count
 
 pub cut-left-spec : {M : Type 1} → statement M

@@ -1,4 +1,4 @@
--- `lines::yard_line` meets its contract: its parts are read one after another, or one of them is missed. Assumes nothing.
+-- `lines::division_line` meets its contract: its parts are read one after another, or one of them is missed. Assumes nothing.
 use mathlib.Core.Path.{ap, ap₂, _∙_}
 use mathlib.Core.List.{List}
 use mathlib.Core.Bool.{true}
@@ -13,14 +13,14 @@ use Rattle.lexing.specs.Results.{answerFrom}
 use Rattle.lexing.proofs.readers.Places.{ReadTo, followed-missed, follow-read}
 use Rattle.lexing.proofs.readers.Answers.{answer-none, Told, told-missed, told-read}
 use Rattle.bundle_reading.proofs.Places.{ReadAsSet, bundle-to, bundle-missed}
-use Rattle.division_numbers.proofs.Places.{amounts-read as amounts-to, amounts-missed}
-use Rattle.division_reading.specs.Grammar.{bundleInTurn, amounts, cutBundles, yardLine}
+use Rattle.division_numbers.proofs.Places.{statedAmounts-read as amounts-to, statedAmounts-missed}
+use Rattle.division_reading.specs.Grammar.{bundleInTurn, statedAmounts, cutBundles, divisionLine}
 use Rattle.division_reading.specs.internal.Results.{readLine}
 use Rattle.division_reading.specs.declared.lines.Line.{Line}
 use Rattle.division_reading.proofs.Suffixes.{bundleInTurn-leaves, cutBundles-leave}
 use Rattle.division_reading.proofs.kept.InTurn.{cutTells}
-use Rattle.division_reading.proofs.lines.yard_line.Statement.{statement}
-use Rattle.division_reading.proofs.lines.yard_line.Tie as tie
+use Rattle.division_reading.proofs.lines.division_line.Statement.{statement}
+use Rattle.division_reading.proofs.lines.division_line.Tie as tie
 
 -- the points of the code where each part has been read, from that of the next
 abbrev bundle-point : tie.After-worth → tie.After-bundle
@@ -39,7 +39,7 @@ bundle-read c = bundle-to _ _ _ (bundleInTurn-leaves _ _ _) (c .before .before .
 
 amounts-read : (c : tie.After-worth) → let b = bundle-point c in
     let place = b .bundle .given .0 .1 .0 in
-    ReadTo (textOf b) place (amounts (tokensAt (textOf b) place)) (λ ts. (c .worth .given .0 .0, c .worth .given .0 .1 .0, ts)) (c .worth .given .0 .1 .1 .0)
+    ReadTo (textOf b) place (statedAmounts (tokensAt (textOf b) place)) (λ ts. (c .worth .given .0 .0, c .worth .given .0 .1 .0, ts)) (c .worth .given .0 .1 .1 .0)
 amounts-read c = amounts-to _ _ (c .before .before .read-amounts .ensures) (c .worth .given .1)
 
 cut-read : (c : tie.Else1) → let m = amounts-point c in
@@ -66,7 +66,7 @@ unread-requires : tie.Need-unread-requires
 unread-requires c κs = search needs
 
 returns : tie.Need-returns
-unfolding yardLine
+unfolding divisionLine
 returns c = c .unread .ensures ∙ answer-none _ _ _ _ (rw (bundle-missed _ _ _ (c .before .before .before .bundle-in-turn .ensures) (c .before .enum-told .given .1)))
 
 read-amounts-requires : tie.Need-read-amounts-requires
@@ -82,10 +82,10 @@ unread-requires-2 : tie.Need-unread-requires-2
 unread-requires-2 c κs = search needs
 
 returns-2 : tie.Need-returns-2
-unfolding yardLine
+unfolding divisionLine
 returns-2 c =
     let b = c .before .before .before .before .before in
-    let missed = amounts-missed _ _ _ (c .before .before .before .read-amounts .ensures) (c .before .enum-told2 .given .1) in
+    let missed = statedAmounts-missed _ _ _ (c .before .before .before .read-amounts .ensures) (c .before .enum-told2 .given .1) in
     c .unread2 .ensures ∙ answer-none _ _ _ _ (rw (bundle-read b .to .read, missed))
 
 read-cut-requires : tie.Need-read-cut-requires
@@ -95,7 +95,7 @@ unread-requires-3 : tie.Need-unread-requires-3
 unread-requires-3 c κs = search needs
 
 returns-3 : tie.Need-returns-3
-unfolding yardLine
+unfolding divisionLine
 returns-3 c =
     let cut = c .before .before .before in
     let m = cut .before .before in
@@ -118,7 +118,7 @@ unread-requires-4 : tie.Need-unread-requires-4
 unread-requires-4 c κs = search needs
 
 returns-4 : tie.Need-returns-4
-unfolding yardLine
+unfolding divisionLine
 returns-4 c =
     let e = c .before .before .before .before .before .before in
     let m = amounts-point e in
@@ -126,7 +126,7 @@ returns-4 c =
     c .unread4 .ensures ∙ answer-none _ _ _ _ (rw (bundle-read (bundle-point m) .to .read, amounts-read m .read, cut-read e .to .read, missed))
 
 returns-5 : tie.Need-returns-5
-unfolding yardLine answerFrom
+unfolding divisionLine answerFrom
 returns-5 c =
     let f = c .before .before .before .before in
     let e = f .before .before .before in
@@ -138,8 +138,8 @@ returns-5 c =
     ∙ ap (readLine (record { bundle = b .items; worth = m .worth .given .0 .0; share = m .worth .given .0 .1 .0; cut = cut-read e .value }))
     (reached-place (reached-then (b .to .reached) (reached-then (amounts-read m .reached) (reached-then (cut-read e .to .reached) (end .reached))))))
 
-pub yard-line-spec : {M : Type 1} → statement M
-yard-line-spec =
+pub division-line-spec : {M : Type 1} → statement M
+division-line-spec =
     tie.close
     (tie.spec
     bundle-in-turn-requires

@@ -5,7 +5,7 @@ use Prim.Native.Nat.{_-_, _≤_, max}
 use native.Mathlib.Omega.{arith}
 use borrow.Author.Needs.{needs}
 use Rattle.lists.specs.Sums.{leastOf}
-use Rattle.reach.specs.Loads.{loadOf, inUse}
+use Rattle.reach.specs.Loads.{loadOf, limitedBundles}
 use Rattle.lists.proofs.sums.LeastOf.{leastOf-next}
 use Rattle.lists.proofs.places.Places.{nth-next}
 use Rattle.reach.proofs.loads.least.Statement.{statement}
@@ -58,7 +58,7 @@ loop-again c =
 returns : tie.Need-returns Inv-loop μ-loop
 returns c =
     let s = c .before .before .before .before in
-    let e : c .before .loop .i ≡ inUse (s .args .bundles) = omega arith in
+    let e : c .before .loop .i ≡ limitedBundles (s .args .bundles) = omega arith in
     c .before .loop .inv .2 ∙ ap (leastOf (loadOf (s .args .loads .now))) e
 
 pub least-spec : {M : Type 1} → statement M

@@ -75,7 +75,7 @@ module _ (t : ℕ) where
   chosen s = listed (s .args .chosen)
 
   abbrev suits : Start → ℕ → ℕ → Bool
-  suits s = suitsOf (s .args .suits)
+  suits s = suitsOf (s .args .suiting)
 
   chosen-count : (s : Start) → s .args .chosen .count ≡ length (chosen s)
   chosen-count s = count-listed (chosen s) (s .pre .1 .2 .same)

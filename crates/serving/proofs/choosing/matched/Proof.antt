@@ -29,7 +29,7 @@ returns : tie.Need-returns
 returns c =
     let a = c .before .before .args in
     let none = c .before .none in
-    let suits = suitsOf (a .suits) in
+    let suits = suitsOf (a .suiting) in
     c .extend .ensures
     ∙ ap (λ l. numbered (firstMatching suits (listed (a .served)) (listed (a .free)) l)) (listed-is [] (none .ensures))
     ∙ ap numbered (firstMatching-matching suits (listed (a .served)) (listed (a .free)))

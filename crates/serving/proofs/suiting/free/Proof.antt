@@ -15,10 +15,10 @@ use Rattle.serving.proofs.suiting.free.Statement.{statement}
 use Rattle.serving.proofs.suiting.free.Tie as tie
 
 abbrev Inv-loop : tie.InvT-loop
-Inv-loop suits waiting bundles left₀ i₀ left i = (i ≤ bundles) × (left ≡ numbered (freeBundles (suitsOf suits) (listed waiting) (range 1 i)))
+Inv-loop suiting waiting bundles left₀ i₀ left i = (i ≤ bundles) × (left ≡ numbered (freeBundles (suitsOf suiting) (listed waiting) (range 1 i)))
 
 abbrev μ-loop : tie.MeasureT-loop
-μ-loop suits waiting bundles left₀ i₀ left i = bundles - i
+μ-loop suiting waiting bundles left₀ i₀ left i = bundles - i
 
 none-requires : tie.Need-none-requires Inv-loop μ-loop
 none-requires c κs = tt
@@ -50,7 +50,7 @@ loop-again c =
     let a = at-loop .before .before .args in
     let l = at-loop .loop in
     let found = c .before .is-wanted in
-    let want = wanted (suitsOf (a .suits)) (listed (a .waiting)) in (
+    let want = wanted (suitsOf (a .suiting)) (listed (a .waiting)) in (
       omega arith,
       rw (range-next (l .i)) (⊎-elim
           (λ w. w .2 ∙ w .1 .ensures ∙ kept-more want (range 1 (l .i)) (l .left) (l .inv .1) (l .i + 1) (omega (arith, length-range 1 (l .i))) (sym (found .ensures) ∙ not-true (found .result) (w .0 .taken)))
@@ -63,7 +63,7 @@ returns c =
     let a = c .before .before .before .args in
     let l = c .before .loop in
     let all : l .i ≡ a .bundles = omega arith in
-    l .inv .1 ∙ ap (λ k. numbered (freeBundles (suitsOf (a .suits)) (listed (a .waiting)) (range 1 k))) all
+    l .inv .1 ∙ ap (λ k. numbered (freeBundles (suitsOf (a .suiting)) (listed (a .waiting)) (range 1 k))) all
 
 pub free-spec : {M : Type 1} → statement M
 free-spec =

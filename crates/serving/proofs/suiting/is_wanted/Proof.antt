@@ -14,17 +14,17 @@ use Rattle.serving.proofs.suiting.is_wanted.Statement.{statement}
 use Rattle.serving.proofs.suiting.is_wanted.Tie as tie
 
 abbrev Inv-loop : tie.InvT-loop
-Inv-loop suits bundle numbers count i₀ i = (i ≤ count) × (wanted (suitsOf suits) (drop i (take count numbers)) bundle ≡ wanted (suitsOf suits) (take count numbers) bundle)
+Inv-loop suiting bundle numbers count i₀ i = (i ≤ count) × (wanted (suitsOf suiting) (drop i (take count numbers)) bundle ≡ wanted (suitsOf suiting) (take count numbers) bundle)
 
 abbrev μ-loop : tie.MeasureT-loop
-μ-loop suits bundle numbers count i₀ i = count - i
+μ-loop suiting bundle numbers count i₀ i = count - i
 
 abbrev Start : Type 0
 Start = tie.Start Inv-loop μ-loop
 
 -- whether the bundle suits an agent
 abbrev suits-bundle : Start → ℕ → Bool
-suits-bundle s agent = suitsOf (s .args .suits) agent (s .args .bundle)
+suits-bundle s agent = suitsOf (s .args .suiting) agent (s .args .bundle)
 
 -- whether it suits the agent in place i, as read from the place and from the list
 agent-at : (s : Start) (i : ℕ) → i < s .args .agents .count → suits-bundle s (getD (listed (s .args .agents)) i 0) ≡ suits-bundle s (getD (s .args .agents .numbers) i 0)

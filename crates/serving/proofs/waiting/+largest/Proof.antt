@@ -58,7 +58,7 @@ module _ (t : ℕ) where
 
   -- what the search finds
   abbrev found : Start → List ℕ → List ℕ → List ℕ → List ℕ
-  found s others l best = largestTight (suitsOf (s .args .suits)) others (s .args .bundles) l best
+  found s others l best = largestTight (suitsOf (s .args .suiting)) others (s .args .bundles) l best
 
   -- the next agent, and those after it
   abbrev agent : Start → ℕ
@@ -92,7 +92,7 @@ module _ (t : ℕ) where
   returns c =
       let s = c .before .before .before .before in
       let a = s .args in
-      s .pre .1 .1 .same ∙ ap numbered (sym (largestTight-short (suitsOf (a .suits)) (a .bundles) (a .others .now) (chosen s) (listed (a .best))
+      s .pre .1 .1 .same ∙ ap numbered (sym (largestTight-short (suitsOf (a .suiting)) (a .bundles) (a .others .now) (chosen s) (listed (a .best))
       (omega (arith, chosen-count s, best-count s, c .if1 .taken))))
 
   is-tight-requires : lts.Need-is-tight-requires (claims t) (largest-at t) largest.Post
@@ -106,7 +106,7 @@ module _ (t : ℕ) where
       let a = s .args in
       let none = empty (a .others .now) (omega arith) in
       let tight = sym (c .before .is-tight .ensures) ∙ c .if3 .taken in
-      rw none (s .pre .1 .0 .same ∙ ap numbered (sym (largestTight-new (suitsOf (a .suits)) (a .bundles) (chosen s) (listed (a .best))
+      rw none (s .pre .1 .0 .same ∙ ap numbered (sym (largestTight-new (suitsOf (a .suiting)) (a .bundles) (chosen s) (listed (a .best))
       (omega (arith, chosen-count s, best-count s)) tight)))
 
   returns-3 : lts.Need-returns-3 (claims t) (largest-at t) largest.Post
@@ -115,7 +115,7 @@ module _ (t : ℕ) where
       let a = s .args in
       let none = empty (a .others .now) (omega arith) in
       let loose = sym (c .before .is-tight .ensures) ∙ c .if3 .left in
-      rw none (s .pre .1 .1 .same ∙ ap numbered (sym (largestTight-old (suitsOf (a .suits)) (a .bundles) (chosen s) (listed (a .best)) loose)))
+      rw none (s .pre .1 .1 .same ∙ ap numbered (sym (largestTight-old (suitsOf (a .suiting)) (a .bundles) (chosen s) (listed (a .best)) loose)))
 
   shared-slice-read-agent : lts.Need-shared-slice-read-agent (claims t) (largest-at t) largest.Post
   shared-slice-read-agent c = omega arith
@@ -157,7 +157,7 @@ module _ (t : ℕ) where
       let with-agent = c .before .append in
       let listed-with = listed-is (chosen s ++ (agent s ∷ [])) (with-agent .ensures ∙ chosen-more s some) in
       let next = searching-with (agent s) (rest s) (s .args .bundles) (chosen s) (searching s some) in
-      let few = largestTight-few (suitsOf (s .args .suits)) (s .args .bundles) setBits (rest s) (listed (with-agent .result)) (listed (s .args .best))
+      let few = largestTight-few (suitsOf (s .args .suiting)) (s .args .bundles) setBits (rest s) (listed (with-agent .result)) (listed (s .args .best))
       (omega (arith, best-count s, s .pre .1 .1 .few)) (omega (arith, next .few, ap length listed-with)) in (
         omega (arith, s .pre .0, ap length parts),
         (
@@ -179,7 +179,7 @@ module _ (t : ℕ) where
       let better = listed-is _ (c .before .largest .ensures) in
       c .largest2 .ensures
       ∙ ap (λ l. numbered (found s (rest s) (chosen s) l)) (better ∙ ap (λ l. found s (rest s) l best) more)
-      ∙ ap numbered (sym (largestTight-next (suitsOf (s .args .suits)) (s .args .bundles) (agent s) (rest s) (chosen s) best))
+      ∙ ap numbered (sym (largestTight-next (suitsOf (s .args .suiting)) (s .args .bundles) (agent s) (rest s) (chosen s) best))
       ∙ ap (λ l. numbered (found s l (chosen s) best)) (sym (others-are s some))
 
 pub +largest-spec : {M : Type 1} → statement M

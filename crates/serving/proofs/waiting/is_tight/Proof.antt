@@ -26,7 +26,7 @@ add-result c =
     let unwanted = c .before .before .free in
     omega (
       arith,
-      kept-few (wanted (suitsOf (a .suits)) (listed (a .agents))) (range 1 (a .bundles)) (unwanted .result) (unwanted .ensures),
+      kept-few (wanted (suitsOf (a .suiting)) (listed (a .agents))) (range 1 (a .bundles)) (unwanted .result) (unwanted .ensures),
       length-range 1 (a .bundles),
       s .pre .0 .places .few,
     )
@@ -37,10 +37,10 @@ returns c =
     let a = s .args in
     let agents = listed (a .agents) in
     let bundles = range 1 (a .bundles) in
-    let unwanted = freeBundles (suitsOf (a .suits)) agents bundles in
+    let unwanted = freeBundles (suitsOf (a .suiting)) agents bundles in
     ap (λ n. leb (a .bundles) (n .count + a .agents .count)) (c .before .before .free .ensures)
     ∙ ap₂ (λ n m. leb n (length unwanted + m)) (sym (length-range 1 (a .bundles))) (count-listed (listed (a .agents)) (s .pre .0 .places .same))
-    ∙ tight-free (suitsOf (a .suits)) bundles agents
+    ∙ tight-free (suitsOf (a .suiting)) bundles agents
 
 pub is-tight-spec : {M : Type 1} → statement M
 is-tight-spec = tie.close (tie.spec free-requires add-result returns)

@@ -82,7 +82,7 @@ returns c =
     let at-best = c .before in
     let at-others = at-best .before .before .before .before in
     let s = at-others .before .before .before in
-    let suits = suitsOf (s .args .suits) in
+    let suits = suitsOf (s .args .suiting) in
     let count = s .args .agents .count in
     c .largest .ensures
     ∙ ap₂ (λ x y. numbered (largestTight suits (listed (at-others .served .result)) count x y)) (listed-is [] (at-best .before .none2 .ensures)) (listed-is [] (at-best .none3 .ensures))

@@ -15,7 +15,7 @@ use Rattle.lists.proofs.Cases.{below-zero}
 use Rattle.sheet.specs.Limits.{greatestSum}
 use Rattle.sheet.specs.Sets.{itemsOf}
 use Rattle.sheet.specs.Valuations.{value}
-use Rattle.margins.specs.Margins.{margin, termsWithin}
+use Rattle.margins.specs.Margins.{margin, limitedTerms}
 use Rattle.margins.proofs.Signs.{nonNeg-margin}
 use Rattle.settling.specs.Suiting.{setSuits}
 use Rattle.settling.proofs.suiting.set_suits.Statement.{statement}
@@ -32,7 +32,7 @@ suits-by-margin : (c : tie.After-margin-of)
     → let a = c .before .before .args in nonNeg (c .margin-of .result) ≡ setSuits (a .terms) (a .valuation) (a .share) (a .set)
 suits-by-margin c =
     let a = c .before .before .args in
-    let terms = termsWithin (a .terms) in
+    let terms = limitedTerms (a .terms) in
     let worth = c .before .value-of .result in
     let share = min (a .share) greatestSum in
     let whole : min worth greatestSum ≡ worth = omega (arith, c .before .value-of .ensures .1) in

@@ -9,17 +9,17 @@ use lib.ListN.{getD}
 use borrow.Author.Needs.{needs}
 use Rattle.lists.specs.Lists.{nth}
 use Rattle.sheet.specs.Limits.{mostAgents}
-use Rattle.sheet.specs.Tables.{valuation}
+use Rattle.sheet.specs.Tables.{valuationOf}
 use Rattle.settling.specs.Suiting.{suitsRow, suitsTable}
 use Rattle.lists.proofs.places.Filling.{Filled, fill-next, fill-all}
 use Rattle.settling.proofs.suiting.suits_table.Statement.{statement}
 use Rattle.settling.proofs.suiting.suits_table.Tie as tie
 
 abbrev Inv-loop : tie.InvT-loop
-Inv-loop terms sets table shares suits₀ i₀ suits i = Filled (λ agent. suitsRow terms (valuation table agent) (nth 0 shares agent) sets) mostAgents suits i
+Inv-loop terms sets table shares suiting₀ i₀ suiting i = Filled (λ agent. suitsRow terms (valuationOf table agent) (nth 0 shares agent) sets) mostAgents suiting i
 
 abbrev μ-loop : tie.MeasureT-loop
-μ-loop terms sets table shares suits₀ i₀ suits i = mostAgents - i
+μ-loop terms sets table shares suiting₀ i₀ suiting i = mostAgents - i
 
 loop-holds : tie.Need-loop-holds Inv-loop μ-loop
 loop-holds c = record { within = omega arith; places = refl; filled = refl }
@@ -39,11 +39,11 @@ array-read-suits-row c = omega arith
 suits-row-requires : tie.Need-suits-row-requires Inv-loop μ-loop
 suits-row-requires c κs = search needs
 
-mul-suits : tie.Need-mul-suits Inv-loop μ-loop
-mul-suits c = omega arith
+mul-suiting : tie.Need-mul-suiting Inv-loop μ-loop
+mul-suiting c = omega arith
 
-array-set-from-suits : tie.Need-array-set-from-suits Inv-loop μ-loop
-array-set-from-suits c = omega arith
+array-set-from-suiting : tie.Need-array-set-from-suiting Inv-loop μ-loop
+array-set-from-suiting c = omega arith
 
 add-i : tie.Need-add-i Inv-loop μ-loop
 add-i c = omega arith
@@ -56,11 +56,11 @@ loop-again c =
     let l = c .before .before .before .loop in
     let a = c .before .before .before .before .args in
     let row : ℕ → List Bool = λ k. suitsRow (a .terms) (getD (a .t1) k []) (getD (a .t2) k 0) (a .sets) in
-    fill-next _ mostAgents (l .suits) (l .i) (l .inv) (c .suits-row .result) (c .suits-row .ensures ∙ ap row (sym (add-sub-cancel (l .i) 1))) (omega arith)
+    fill-next _ mostAgents (l .suiting) (l .i) (l .inv) (c .suits-row .result) (c .suits-row .ensures ∙ ap row (sym (add-sub-cancel (l .i) 1))) (omega arith)
 
 returns : tie.Need-returns Inv-loop μ-loop
 unfolding suitsTable
-returns c = let l = c .before .loop in fill-all _ mostAgents (l .suits) (l .i) (l .inv) (omega (arith, l .inv .within))
+returns c = let l = c .before .loop in fill-all _ mostAgents (l .suiting) (l .i) (l .inv) (omega (arith, l .inv .within))
 
 pub suits-table-spec : {M : Type 1} → statement M
 suits-table-spec =
@@ -74,8 +74,8 @@ suits-table-spec =
     mul-suits-row
     array-read-suits-row
     suits-row-requires
-    mul-suits
-    array-set-from-suits
+    mul-suiting
+    array-set-from-suiting
     add-i
     loop-less
     loop-again

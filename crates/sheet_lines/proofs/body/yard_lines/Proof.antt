@@ -12,7 +12,7 @@ use Rattle.lexing.proofs.readers.Stored.{storedFrom, next-missed, next-stored, 
 use Rattle.sheet_lines.specs.Grammar.{body}
 use Rattle.sheet_lines.specs.Results.{bodyFrom}
 use Rattle.sheet_lines.proofs.Suffixes.{yardLine-leaves}
-use Rattle.sheet_lines.proofs.Places.{lineTells}
+use Rattle.sheet_lines.proofs.Places.{marksTell}
 use Rattle.sheet_lines.proofs.kept.InTurn.{yardsRead, linesStored, no-line-stored}
 use Rattle.sheet_lines.proofs.body.yard_lines.Statement.{statement}
 use Rattle.sheet_lines.proofs.body.yard_lines.Tie as tie
@@ -40,7 +40,7 @@ yard-line-requires c κs = omega arith
 returns : tie.Need-returns Inv-loop μ-loop
 returns c =
     let line = c .before .before .before .before in
-    let missed = told-missed lineTells _ _ _ (line .yard-line .ensures) (not-true (line .yard-line .result .read) (c .before .if1 .taken)) in
+    let missed = told-missed marksTell _ _ _ (line .yard-line .ensures) (not-true (line .yard-line .result .read) (c .before .if1 .taken)) in
     c .unread .ensures ∙ next-missed (linesStored _) _ _ _ _ _ _ _ (line .before .loop-test .taken) missed ∙ sym (line .before .before .loop .inv .3)
 
 unread-requires : tie.Need-unread-requires Inv-loop μ-loop
@@ -66,7 +66,7 @@ loop-again c =
     let line = c .before .before .before .before .before in
     let loop = line .before .before in
     let e = not-false (line .yard-line .result .read) (c .before .before .if1 .left) in
-    let read = told-read lineTells _ _ _ (yardLine-leaves _ _ _ _) (line .yard-line .ensures) e in (
+    let read = told-read marksTell _ _ _ (yardLine-leaves _ _ _ _) (line .yard-line .ensures) e in (
       omega arith,
       simp length-set (loop .loop .inv .1),
       reached-then (loop .loop .inv .2) (read .to .reached),

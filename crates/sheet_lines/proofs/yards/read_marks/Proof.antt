@@ -10,7 +10,7 @@ use Rattle.tokeniser.proofs.Behind.{Reached, reached-here, reached-then, reache
 use Rattle.lexing.proofs.readers.Places.{number-missed, number-at-read}
 use Rattle.lexing.proofs.readers.Stored.{storedFrom, next-missed, next-stored, all-stored}
 use Rattle.sheet_lines.specs.Grammar.{marks}
-use Rattle.sheet_lines.specs.internal.Results.{lineFrom}
+use Rattle.sheet_lines.specs.internal.Results.{marksFrom}
 use Rattle.sheet_lines.proofs.kept.InTurn.{rowRead, marksStored, no-mark-stored}
 use Rattle.sheet_lines.proofs.yards.read_marks.Statement.{statement}
 use Rattle.sheet_lines.proofs.yards.read_marks.Tie as tie
@@ -18,7 +18,7 @@ use Rattle.sheet_lines.proofs.yards.read_marks.Tie as tie
 abbrev Inv-loop : tie.InvT-loop
 Inv-loop s items row₀ allowed₀ here₀ k₀ row allowed here k =
     (k ≤ items) × (length row ≡ mostItems) × Reached s here₀ here
-    × (lineFrom s here₀ (marks markDigits items (tokensAt s here₀)) ≡ storedFrom marksStored s here₀ items k row allowed (tokensAt s here))
+    × (marksFrom s here₀ (marks markDigits items (tokensAt s here₀)) ≡ storedFrom marksStored s here₀ items k row allowed (tokensAt s here))
 
 abbrev μ-loop : tie.MeasureT-loop
 μ-loop s items row₀ allowed₀ here₀ k₀ row allowed here k = items - k

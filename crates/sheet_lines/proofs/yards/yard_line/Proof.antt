@@ -9,10 +9,10 @@ use Rattle.lexing.specs.Results.{answerFrom}
 use Rattle.lexing.proofs.readers.Places.{ReadTo, followed-missed, followed-to, follow-read}
 use Rattle.lexing.proofs.readers.Answers.{answer-none, Told, told-missed, told-read}
 use Rattle.sheet_lines.specs.Grammar.{marks, yardTurn, yardLine}
-use Rattle.sheet_lines.specs.internal.Results.{readLine}
+use Rattle.sheet_lines.specs.internal.Results.{readMarks}
 use Rattle.sheet_lines.specs.declared.yards.Line.{Line}
 use Rattle.sheet_lines.proofs.Suffixes.{marks-leave, yardTurn-leaves}
-use Rattle.sheet_lines.proofs.Places.{lineTells}
+use Rattle.sheet_lines.proofs.Places.{marksTell}
 use borrow.Author.Needs.{needs}
 use Rattle.sheet_lines.proofs.yards.yard_line.Statement.{statement}
 use Rattle.sheet_lines.proofs.yards.yard_line.Tie as tie
@@ -28,8 +28,8 @@ turn-read c = followed-to _ _ _ (yardTurn-leaves _ _) (c .before .before .yard-i
 
 marks-read : (c : tie.Else1) → let a = turn-point c .before .before .before .before .args in
     let place = turn-point c .c1 .given .0 .0 in
-    Told lineTells (now (a .s)) place (marks markDigits (a .items) (tokensAt (now (a .s)) place)) (c .before .before .read-marks .result)
-marks-read c = told-read lineTells _ _ _ (marks-leave _ _ _) (c .before .before .read-marks .ensures) (not-false (c .before .before .read-marks .result .read) (c .if1 .left))
+    Told marksTell (now (a .s)) place (marks markDigits (a .items) (tokensAt (now (a .s)) place)) (c .before .before .read-marks .result)
+marks-read c = told-read marksTell _ _ _ (marks-leave _ _ _) (c .before .before .read-marks .ensures) (not-false (c .before .before .read-marks .result .read) (c .if1 .left))
 
 yard-in-turn-requires : tie.Need-yard-in-turn-requires
 yard-in-turn-requires c κs = search needs
@@ -54,7 +54,7 @@ returns-2 : tie.Need-returns-2
 unfolding yardLine
 returns-2 c =
     let line = c .before .before in
-    let missed = told-missed lineTells _ _ _ (line .read-marks .ensures) (not-true (line .read-marks .result .read) (c .if1 .taken)) in
+    let missed = told-missed marksTell _ _ _ (line .read-marks .ensures) (not-true (line .read-marks .result .read) (c .if1 .taken)) in
     line .read-marks .ensures ∙ sym (answer-none _ _ _ _ missed) ∙ answer-none _ _ _ _ (rw (turn-read (line .before .before) .read, missed))
 
 slice-aggregate-follow : tie.Need-slice-aggregate-follow
@@ -87,7 +87,7 @@ returns-4 c =
     let end = follow-read _ _ _ (c .before .before .before .follow .ensures) (c .before .c3 .given .1) in
     rw (turn .read, marks-read m .to .read, end .read)
     (ap {B = Line} (λ l. record { read = l .read; allowed = l .allowed; row = l .row; next = c .before .c3 .given .0 .0 }) (marks-read m .is-made)
-    ∙ ap (readLine (marks-read m .value)) (reached-place (reached-then (turn .reached) (reached-then (marks-read m .to .reached) (end .reached)))))
+    ∙ ap (readMarks (marks-read m .value)) (reached-place (reached-then (turn .reached) (reached-then (marks-read m .to .reached) (end .reached)))))
 
 pub yard-line-spec : {M : Type 1} → statement M
 yard-line-spec =

@@ -6,15 +6,15 @@ use lib.ListN.{length}
 use Rattle.sheet.specs.Limits.{mostAgents}
 use Rattle.writing.specs.Output.{output, Written}
 use Rattle.writing.proofs.Written.{nothing, _then_}
-use Rattle.strict_text.specs.StrictText.{yardTexts, inUse}
+use Rattle.strict_text.specs.StrictText.{yardTexts, rowsInUse}
 use Rattle.lists.proofs.places.Passing.{take-min}
-use Rattle.strict_text.proofs.InUse.{yardTexts-next}
+use Rattle.strict_text.proofs.RowsInUse.{yardTexts-next}
 use Rattle.strict_writing.proofs.lines.put_yards.Statement.{statement}
 use Rattle.strict_writing.proofs.lines.put_yards.Tie as tie
 
 abbrev Inv-loop : tie.InvT-loop
 Inv-loop buffer₀ at agents items table last next₀ i₀ buffer next i =
-    (i ≤ last) × (length buffer ≡ length buffer₀) × Written (output buffer₀ at) (yardTexts 1 (inUse i items table)) (output buffer next)
+    (i ≤ last) × (length buffer ≡ length buffer₀) × Written (output buffer₀ at) (yardTexts 1 (rowsInUse i items table)) (output buffer next)
 
 abbrev μ-loop : tie.MeasureT-loop
 μ-loop buffer₀ at agents items table last next₀ i₀ buffer next i = last - i
