@@ -17,17 +17,17 @@ pub record Assessment : Type 0 where
   pub grade : ℕ
 
 -- with these margins
-abbrev pub assessmentWith : ℕ → List (List ℕ) → List ℕ → List (List ℕ) → List ℤ → Assessment
+abbrev pub assessmentWith : (n : ℕ) (valuations : List (List ℕ)) (shares : List ℕ) (bundles : List (List ℕ)) (margins : List ℤ) → Assessment
 assessmentWith n valuations shares bundles margins =
     record { worths = ownValues n valuations bundles; margins = margins; grade = grade n valuations shares margins bundles }
 
 -- of n agents, by the terms, their valuations and their shares
-abbrev pub assessment : ℕ → Terms → List (List ℕ) → List ℕ → List (List ℕ) → Assessment
+abbrev pub assessment : (n : ℕ) (terms : Terms) (valuations : List (List ℕ)) (shares : List ℕ) (bundles : List (List ℕ)) → Assessment
 assessment n terms valuations shares bundles = assessmentWith n valuations shares bundles (marginsOf n terms (ownValues n valuations bundles) shares)
 
 -- of any allocation of the items of a sheet in its places, by those in use: counts, terms and the shares of the margins are cut to their
 -- limits, and items above those of the sheet are worth nothing; the bundles are 16-bit sets
-unfoldable pub assessmentIn : Contents → Terms → List ℕ → List ℕ → Assessment
+unfoldable pub assessmentIn : (sheet : Contents) (terms : Terms) (shares sets : List ℕ) → Assessment
 assessmentIn sheet terms shares sets =
     let n = min (sheet .agents) mostAgents in
     let valuations = profile n (min (sheet .items) mostItems) (sheet .table) in

@@ -12,7 +12,7 @@ use Rattle.sheet.specs.Tables.{valuationOf}
 use Rattle.margins.specs.Margins.{noneNegative}
 
 -- what agent i's valuation says of agent j's bundle
-abbrev pub valueTo : List (List ℕ) → List (List ℕ) → ℕ → ℕ → ℕ
+abbrev pub valueTo : (valuations bundles : List (List ℕ)) (i j : ℕ) → ℕ
 valueTo valuations bundles i j = value (valuationOf valuations i) (nth [] bundles j)
 
 module _ (n : ℕ) (valuations bundles : List (List ℕ)) where
@@ -29,11 +29,11 @@ module _ (n : ℕ) (valuations bundles : List (List ℕ)) where
   proportional = all (λ i. leb (total (valuationOf valuations i)) (n * valueTo valuations bundles i i)) (range 1 n)
 
 -- "each pile reaches its yard's whole maximin share"
-unfoldable pub maximinFair : ℕ → List (List ℕ) → List ℕ → List (List ℕ) → Bool
+unfoldable pub maximinFair : (n : ℕ) (valuations : List (List ℕ)) (shares : List ℕ) (bundles : List (List ℕ)) → Bool
 maximinFair n valuations shares bundles = all (λ i. leb (nth 0 shares i) (valueTo valuations bundles i i)) (range 1 n)
 
 -- "the first that fits", with the agents' margins: "4 now needs every margin to be zero or more, and 5 is the rest"
-unfoldable pub grade : ℕ → List (List ℕ) → List ℕ → List ℤ → List (List ℕ) → ℕ
+unfoldable pub grade : (n : ℕ) (valuations : List (List ℕ)) (shares : List ℕ) (margins : List ℤ) (bundles : List (List ℕ)) → ℕ
 grade n valuations shares margins bundles =
     cond (envyFree n valuations bundles) 1
     (cond (proportional n valuations bundles) 2

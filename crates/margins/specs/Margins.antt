@@ -13,7 +13,7 @@ unfoldable pub margin : Terms → ℕ → ℕ → ℤ
 margin terms worth share = pos (terms .bottom * worth) -ℤ pos (terms .top * share)
 
 -- the margin of each of n agents, by its worth and its share
-abbrev pub marginsOf : ℕ → Terms → List ℕ → List ℕ → List ℤ
+abbrev pub marginsOf : (n : ℕ) (terms : Terms) (worths shares : List ℕ) → List ℤ
 marginsOf n terms worths shares = map (λ i. margin terms (nth 0 worths i) (nth 0 shares i)) (range 1 n)
 
 -- "every margin to be zero or more": those of the first n agents
@@ -29,7 +29,7 @@ abbrev pub limitedMargin : Terms → ℕ → ℕ → ℤ
 limitedMargin terms worth share = margin (limitedTerms terms) (min worth greatestSum) (min share greatestSum)
 
 -- the margins in six places, 0 after the last agent
-abbrev pub marginsStored : ℕ → Terms → List ℕ → List ℕ → List ℤ
+abbrev pub marginsStored : (agents : ℕ) (terms : Terms) (worths shares : List ℕ) → List ℤ
 marginsStored agents terms worths shares = padded mostAgents (pos 0) (map (λ i. limitedMargin terms (nth 0 worths i) (nth 0 shares i)) (range 1 (min agents mostAgents)))
 
 -- no margin is greater without its sign: the greatest bottom times the greatest sum

@@ -28,7 +28,7 @@ unfoldable pub cutGroup : List (List ℕ) → List ℕ
 cutGroup cut = bytes " (cut" ++ flatMap cutPile cut ++ bytes ")"
 
 -- "A yard line has the pieces it gets, their worth by its marks, its share, and its cut of all pieces into N piles"
-unfoldable pub printedYard : ℕ → List ℕ → ℕ → ℕ → List (List ℕ) → List ℕ
+unfoldable pub printedYard : (agent : ℕ) (pile : List ℕ) (worth share : ℕ) (cut : List (List ℕ)) → List ℕ
 printedYard agent pile worth share cut = field "(yard " agent ++ pileGroup pile ++ worthAndShare worth share ++ cutGroup cut ++ bytes ")\n"
 
 -- "The cutters line has the cutter of each round in turn"

@@ -11,7 +11,7 @@ abbrev pub loadOf : List ℕ → ℕ → ℕ
 loadOf loads c = nth 0 loads c
 
 -- the least of the bundles 1 .. n once the partition l of the values is put on top of the loads
-abbrev pub leastLoaded : ℕ → (ℕ → ℕ) → List ℕ → List ℕ → ℕ
+abbrev pub leastLoaded : (n : ℕ) (load : ℕ → ℕ) (values l : List ℕ) → ℕ
 leastLoaded n load values l = leastOf (λ c. load c + bundleValue c values l) n
 
 -- a number of bundles, cut to the limits of a cut

@@ -19,7 +19,7 @@ abbrev pub countedSupply : ℕ → List ℕ → ℕ
 countedSupply most values = supply (min most (greatestSum + 1)) (take mostItems values)
 
 -- what the loads of the bundles 1 .. n lack of the goal, each lack counted up to a threshold
-abbrev pub demand : ℕ → (ℕ → ℕ) → ℕ → ℕ → ℕ
+abbrev pub demand : (goal : ℕ) (load : ℕ → ℕ) (n most : ℕ) → ℕ
 demand goal load n most = sumOf (λ c. min (goal - load c) most) n
 
 -- the greatest of the values, and at least 1
@@ -37,7 +37,7 @@ needed most zero = 0
 needed most (suc lack) = lack / most + 1
 
 -- how many such values the loads of the bundles 1 .. n need to reach the goal
-abbrev pub neededBy : ℕ → (ℕ → ℕ) → ℕ → ℕ → ℕ
+abbrev pub neededBy : (goal : ℕ) (load : ℕ → ℕ) (n most : ℕ) → ℕ
 neededBy goal load n most = sumOf (λ c. needed most (goal - load c)) n
 
 module _ (goal : ℕ) (load : ℕ → ℕ) (n : ℕ) (values : List ℕ) where
@@ -54,5 +54,5 @@ module _ (goal : ℕ) (load : ℕ → ℕ) (n : ℕ) (values : List ℕ) where
   needsMore most = ltb (length values) (neededBy goal load n most)
 
 -- whether the goal is out of reach: above the ceiling, or by one of the two counts
-abbrev pub isOutOfReach : ℕ → ℕ → (ℕ → ℕ) → ℕ → List ℕ → ℕ → Bool
+abbrev pub isOutOfReach : (ceiling goal : ℕ) (load : ℕ → ℕ) (n : ℕ) (values : List ℕ) (most : ℕ) → Bool
 isOutOfReach ceiling goal load n values most = cond (ltb ceiling goal) true (cond (needsMore goal load n values most) true (isShort goal load n values))

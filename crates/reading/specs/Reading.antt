@@ -17,7 +17,7 @@ use Rattle.sheet_lines.specs.Kept.{tableOf}
 
 -- what the lines between the first line and the line `(end)` of a sheet with these counts carry, where none of these reasons is found:
 -- 8: "A mark is above" the greatest
-unfoldable pub contentsOf : MarkLimits → ℕ → ℕ → Body → Answer Contents
+unfoldable pub contentsOf : (limits : MarkLimits) (agents items : ℕ) (lines : Body) → Answer Contents
 contentsOf limits agents items lines =
     require 8 (all (allowedRow (limits .greatest)) (lines .rows))
     (accepted (sheetOf agents items (tableOf (lines .rows))))

@@ -35,7 +35,7 @@ module _ (G : Instance) where
   itemsSuit agent items = leb (G .terms .top * nth 0 (G .shares) agent) (G .terms .bottom * value (valuationOf (G .valuations) agent) items)
 
   -- whether bundle c of a partition of the items suits the agent
-  abbrev pub suitsIn : List ℕ → List ℕ → ℕ → ℕ → Bool
+  abbrev pub suitsIn : (items l : List ℕ) (agent c : ℕ) → Bool
   suitsIn items l agent c = itemsSuit agent (bundle items l c)
 
   -- "It cuts the pieces left into n piles"

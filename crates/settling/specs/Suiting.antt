@@ -13,13 +13,13 @@ use Rattle.margins.specs.Margins.{limitedTerms}
 
 -- "A pile suits a yard when bottom × worth is at least top × that yard's maximin share": the items of a set, and an agent with this valuation
 -- and share; the terms and the share are cut to their limits
-abbrev pub setSuits : Terms → List ℕ → ℕ → ℕ → Bool
+abbrev pub setSuits : (terms : Terms) (valuation : List ℕ) (share set : ℕ) → Bool
 setSuits terms valuation share set = leb (limitedTerms terms .top * min share greatestSum) (limitedTerms terms .bottom * value valuation (itemsOf set))
 
 -- whether each of the sets suits an agent with this valuation and share
-unfoldable pub suitsRow : Terms → List ℕ → ℕ → List ℕ → List Bool
+unfoldable pub suitsRow : (terms : Terms) (valuation : List ℕ) (share : ℕ) (sets : List ℕ) → List Bool
 suitsRow terms valuation share sets = map (λ c. setSuits terms valuation share (nth 0 sets c)) (range 1 mostAgents)
 
 -- the row of each agent
-unfoldable pub suitsTable : Terms → List (List ℕ) → List ℕ → List ℕ → List (List Bool)
+unfoldable pub suitsTable : (terms : Terms) (table : List (List ℕ)) (shares sets : List ℕ) → List (List Bool)
 suitsTable terms table shares sets = map (λ agent. suitsRow terms (valuationOf table agent) (nth 0 shares agent) sets) (range 1 mostAgents)

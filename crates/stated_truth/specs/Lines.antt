@@ -53,5 +53,5 @@ module _ (n m : ℕ) where
   linesTrue table shares lines = all (λ i. lineTrueTo (valuationOf table i) (nth 0 shares i) (statedLine n (nth noLine lines i))) (range 1 n)
 
   -- whether all lines are true, and the grade that is stated is the grade
-  abbrev pub figuresTrueBy : List (List ℕ) → List ℕ → List line.StatedLine → ℕ → ℕ → Bool
+  abbrev pub figuresTrueBy : (table : List (List ℕ)) (shares : List ℕ) (lines : List line.StatedLine) (grade stated : ℕ) → Bool
   figuresTrueBy table shares lines grade stated = linesTrue table shares lines && eqb stated grade

@@ -18,7 +18,7 @@ stored [] sets places = places
 stored (agent ∷ served) sets places = stored served (drop 1 sets) (set places (agent - 1) (getD sets 0 0))
 
 -- one round more: its cutter, and the sets of the agents served
-abbrev pub withRound : ℕ → List ℕ → List ℕ → Allocation → Allocation
+abbrev pub withRound : (cutter : ℕ) (served sets : List ℕ) (a : Allocation) → Allocation
 withRound cutter served sets a =
     record { bundles = stored served sets (a .bundles); cutters = set (a .cutters) (a .rounds) cutter; rounds = a .rounds + 1 }
 

@@ -20,7 +20,7 @@ abbrev pub instanceFrom : Terms → List (List ℕ) → List ℕ → Instance
 instanceFrom terms table shares = record { terms = terms; valuations = table; shares = shares }
 
 -- the cutter's cut of the items left into as many bundles as there are agents left
-abbrev pub cutLeft : List (List ℕ) → ℕ → List ℕ → List ℕ → List ℕ
+abbrev pub cutLeft : (table : List (List ℕ)) (cutter : ℕ) (agents items : List ℕ) → List ℕ
 cutLeft table cutter agents items = maximinPartition (length agents) (map (itemValue (valuationOf table cutter)) items)
 
 -- some agents are left, and both sets are those of a sheet

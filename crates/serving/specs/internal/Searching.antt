@@ -22,7 +22,7 @@ pub record Searching (others : List ℕ) (bundles : ℕ) (chosen : List ℕ) : T
 
 module _ (suits : ℕ → ℕ → Bool) where
   -- the first largest of `best` and the tight sets that have the agents chosen and some of the others
-  unfoldable pub largestTight : List ℕ → ℕ → List ℕ → List ℕ → List ℕ
+  unfoldable pub largestTight : (others : List ℕ) (bundles : ℕ) (chosen best : List ℕ) → List ℕ
   largestTight others bundles chosen best = firstBest length (best ∷ filter (tight suits (range 1 bundles)) (begun chosen (sublists others)))
 
   -- where the search for the first matching may stand: the bundles chosen suit the first agents, and none is chosen twice
