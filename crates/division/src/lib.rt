@@ -105,7 +105,7 @@ fn divide_shared(
     }
 }
 
-// The division of a table of marks with these counts. Refused as its shares are: with 4 where the agents lie outside the limits, else
+// The division of a sheet. Refused as its shares are: with 4 where the agents lie outside the limits, else
 // with 5 where the items do, else with 9 where a share times the agents exceeds the sum of its marks, else with 14 where the growth
 // partitions of all items into as many bundles as agents outnumber the allowance.
 pub fn divide(table: Table, sheet: Sheet, allowance: u32) -> Outcome

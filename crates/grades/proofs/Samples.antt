@@ -8,7 +8,7 @@ use Rattle.maximin.specs.Share.{maximinShare}
 use Rattle.terms.specs.Terms.{largestOdd, termsFor}
 use Rattle.margins.specs.Margins.{margin}
 use Rattle.grades.specs.Grade.{envyFree, proportional, maximinFair, grade}
-use Rattle.grades.specs.Scale.{gradeByTable}
+use Rattle.grades.specs.Scale.{gradeBySheet}
 
 -- a table of three agents, an allocation of its items, and the grade
 pub record Sample : Type 0 where
@@ -63,6 +63,6 @@ samples =
     }
     ∷ []
 
-pub samples-graded : map (λ s. gradeByTable (sheetOf 3 (s .items) (s .rows)) (s .bundles)) samples ≡ map (λ s. s .grade) samples
+pub samples-graded : map (λ s. gradeBySheet (sheetOf 3 (s .items) (s .rows)) (s .bundles)) samples ≡ map (λ s. s .grade) samples
 unfolding samples grade envyFree proportional maximinFair profile maximinShare termsFor largestOdd margin
 samples-graded = refl

@@ -21,7 +21,7 @@ use Rattle.terms.specs.declared.Terms.{Terms}
 use Rattle.terms.proofs.Allowed.{at-most-whole, termsFor-at-most-standard}
 use Rattle.margins.specs.Margins.{noneNegative}
 use Rattle.grades.specs.Grade.{envyFree, proportional, maximinFair, grade}
-use Rattle.grades.specs.Scale.{marginsByTerms, passesByTerms, gradeByTerms, passes, gradeByTable}
+use Rattle.grades.specs.Scale.{marginsByTerms, passesByTerms, gradeByTerms, passes, gradeBySheet}
 use Rattle.grades.proofs.Grades.{firstPassed, firstPassed-bounds}
 use Rattle.grades.proofs.Implied.{envyFree-proportional, proportional-maximinFair, maximinFair-noneNegative}
 
@@ -66,16 +66,16 @@ module _ (sheet : Contents) (terms : Terms) (bundles : List (List ℕ)) (allowed
 
 -- by those of document 01
 module _ (sheet : Contents) (bundles : List (List ℕ)) (allocates : Allocates (sheet .agents) (sheet .items) bundles) where
-  pub passes-from-grade : (g : ℕ) → 1 ≤ g → passes sheet bundles g ≡ leb (gradeByTable sheet bundles) g
+  pub passes-from-grade : (g : ℕ) → 1 ≤ g → passes sheet bundles g ≡ leb (gradeBySheet sheet bundles) g
   passes-from-grade = passesByTerms-from-grade sheet (termsFor (sheet .agents)) bundles (termsFor-at-most-standard (sheet .agents)) allocates
 
   pub passes-later : (g h : ℕ) → 1 ≤ g → g ≤ h → passes sheet bundles g ≡ true → passes sheet bundles h ≡ true
   passes-later = passesByTerms-later sheet (termsFor (sheet .agents)) bundles (termsFor-at-most-standard (sheet .agents)) allocates
 
   -- "a grade 1 division passes the tests for 2 and 3"
-  pub grade-1-passes-2-and-3 : gradeByTable sheet bundles ≡ 1 → (passes sheet bundles 2 ≡ true) × (passes sheet bundles 3 ≡ true)
+  pub grade-1-passes-2-and-3 : gradeBySheet sheet bundles ≡ 1 → (passes sheet bundles 2 ≡ true) × (passes sheet bundles 3 ≡ true)
   grade-1-passes-2-and-3 is-1 = (passes-from-grade 2 (omega arith) ∙ ap (λ g. leb g 2) is-1, passes-from-grade 3 (omega arith) ∙ ap (λ g. leb g 3) is-1)
 
   -- "and a grade 2 division the test for 3"
-  pub grade-2-passes-3 : gradeByTable sheet bundles ≡ 2 → passes sheet bundles 3 ≡ true
+  pub grade-2-passes-3 : gradeBySheet sheet bundles ≡ 2 → passes sheet bundles 3 ≡ true
   grade-2-passes-3 is-2 = passes-from-grade 3 (omega arith) ∙ ap (λ g. leb g 3) is-2

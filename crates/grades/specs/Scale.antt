@@ -41,11 +41,8 @@ module _ (sheet : Contents) where
 
   -- the same by the terms of the sheet
   module _ (bundles : List (List ℕ)) where
-    abbrev pub marginsByTable : List ℤ
-    marginsByTable = marginsByTerms (termsOf sheet) bundles
-
     abbrev pub passes : ℕ → Bool
     passes = passesByTerms (termsOf sheet) bundles
 
-    abbrev pub gradeByTable : ℕ
-    gradeByTable = gradeByTerms (termsOf sheet) bundles
+    abbrev pub gradeBySheet : ℕ
+    gradeBySheet = gradeByTerms (termsOf sheet) bundles

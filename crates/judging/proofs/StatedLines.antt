@@ -7,20 +7,25 @@ use native.Mathlib.Omega.{arith}
 use lib.Dec.{eqb}
 use lib.ListN.{length, take, length-map, length-take, List·getD-map}
 use lib.Seq.{getD-take}
-use Rattle.lists.specs.Lists.{range, nth, all}
+use Rattle.lists.specs.Lists.{range, nth, all, padded}
 use Rattle.lists.proofs.ranges.Ranges.{range-bounds}
 use Rattle.lists.proofs.places.Passing.{take-map}
+use Rattle.lists.proofs.places.Places.{nth-padded-range}
 use Rattle.lists.proofs.places.Defaults.{getD-default}
 use Rattle.lists.proofs.members.Tests.{all-cong, all-nth}
 use Rattle.sheet.specs.Limits.{mostAgents}
 use Rattle.sheet.specs.Sets.{itemsOf}
-use Rattle.sheet.specs.Contents.{Contents}
+use Rattle.sheet.specs.Valuations.{value}
+use Rattle.sheet.specs.Contents.{Contents, valuationsOf}
+use Rattle.sheet.proofs.valuing.Tables.{valuationOf-profile}
 use Rattle.shares.specs.Known.{SharesIn}
 use Rattle.shares.proofs.Outcomes.{nth-shares-in}
 use Rattle.terms.specs.declared.Terms.{Terms}
+use Rattle.grades.specs.Grade.{valueTo, ownValues}
 use Rattle.grades.specs.Scale.{gradeByTerms}
+use Rattle.division_reading.specs.Stated.{Stated}
 use Rattle.division_reading.specs.declared.StatedLine as line
-use Rattle.stated_truth.specs.Truth.{bundlesOf, lineOf, noneStated, bundlesAndCuts, lineTrue, figuresTrue}
+use Rattle.stated_truth.specs.Truth.{bundlesOf, lineOf, noneStated, bundlesAndCuts, worthTo, lineTrue, figuresTrue}
 use Rattle.stated_truth.specs.Lines.{noLine, statedLine, statedOf, cutsPass, setsAndCuts, linesTrue, figuresTrueBy}
 
 -- the bundles of the lines as sets
@@ -66,15 +71,26 @@ module _ (n grade : ℕ) (lines : List line.StatedLine) where
 
 -- the figures, by the shares of a sheet
 module _ (sheet : Contents) {shares : List ℕ} (known : SharesIn sheet shares) (grade : ℕ) (lines : List line.StatedLine) (places : length lines ≡ mostAgents) where
-  -- the worths, the shares and the cuts
-  lines-stated : all (λ i. lineTrue sheet i (lineOf (statedOf (sheet .agents) grade lines) i)) (range 1 (sheet .agents))
-      ≡ linesTrue (sheet .agents) (sheet .items) (sheet .table) shares lines
-  unfolding lineTrue
-  lines-stated =
-      all-cong _ _ (range 1 (sheet .agents)) (λ i mi. rw (lineOf-stated (sheet .agents) grade lines (known .counts .few) places mi, nth-shares-in known mi))
+  abbrev stated : Stated
+  stated = statedOf (sheet .agents) grade lines
 
-  -- the test of refusal 13
-  pub figures-stated : (terms : Terms) (g : ℕ) → gradeByTerms sheet terms (bundlesOf (statedOf (sheet .agents) grade lines)) ≡ g
-      → figuresTrue sheet terms (statedOf (sheet .agents) grade lines) ≡ figuresTrueBy (sheet .agents) (sheet .items) (sheet .table) shares lines g grade
-  unfolding figuresTrue
-  figures-stated terms g is = ap₂ _&&_ lines-stated (ap (eqb grade) is)
+  -- the worths, agent after agent
+  module _ {worths : List ℕ} (worths-are : worths ≡ padded mostAgents 0 (ownValues (sheet .agents) (valuationsOf sheet) (bundlesOf stated))) where
+    worth-in-use : {i : ℕ} → Mem i (range 1 (sheet .agents)) → nth 0 worths i ≡ worthTo sheet i (lineOf stated i .bundle)
+    worth-in-use {i} mi =
+        ap (λ l. nth 0 l i) worths-are
+        ∙ nth-padded-range mostAgents 0 0 (λ k. valueTo (valuationsOf sheet) (bundlesOf stated) k k) (sheet .agents) mi
+        ∙ ap₂ value (valuationOf-profile (sheet .agents) (sheet .items) (sheet .table) mi) (List·getD-map (λ l. l .bundle) (stated .lines) (i - 1) noneStated)
+
+    -- the worths, the shares and the cuts
+    lines-stated : all (λ i. lineTrue sheet i (lineOf stated i)) (range 1 (sheet .agents)) ≡ linesTrue (sheet .agents) (sheet .items) (sheet .table) shares worths lines
+    unfolding lineTrue
+    lines-stated =
+        all-cong _ _ (range 1 (sheet .agents))
+        (λ i mi. rw (worth-in-use mi, lineOf-stated (sheet .agents) grade lines (known .counts .few) places mi, nth-shares-in known mi))
+
+    -- the test of refusal 13
+    pub figures-stated : (terms : Terms) (g : ℕ) → gradeByTerms sheet terms (bundlesOf stated) ≡ g
+        → figuresTrue sheet terms stated ≡ figuresTrueBy (sheet .agents) (sheet .items) (sheet .table) shares worths lines g grade
+    unfolding figuresTrue
+    figures-stated terms g is = ap₂ _&&_ lines-stated (ap (eqb grade) is)

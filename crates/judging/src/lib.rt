@@ -79,11 +79,21 @@ fn judge_shared(
     let lines = stated.lines;
     let bundles = bundles_of(lines);
     let assessed = assess(table, sheet, terms, shares, bundles);
+    let worths = assessed.worths;
     let margins = assessed.margins;
     let grade = assessed.grade;
     let named = all_pass(Test::OfSheet, bundles, lines, agents, items);
     let once = all_pass(Test::EachInOne, bundles, lines, agents, items);
-    let correct = figures_true(table, agents, items, shares, lines, grade, stated.grade);
+    let correct = figures_true(
+        table,
+        agents,
+        items,
+        shares,
+        worths,
+        lines,
+        grade,
+        stated.grade,
+    );
     let laid_out = both(read, named);
     if !laid_out {
         return refuse(11);

@@ -46,7 +46,7 @@ fn print_outcome(agents: usize, items: usize, outcome: Outcome, buffer: &mut [u8
     fill(&text[..length], buffer)
 }
 
-// Divides a table of marks as its sheet says, with an allowance, and prints the division from the front of the buffer. Refused as by
+// Divides a sheet with an allowance and prints the division from the front of the buffer. Refused as by
 // `divide`, else with 10 where the buffer is shorter than the text; then the buffer keeps all its bytes.
 pub fn print_division(table: Table, sheet: Sheet, allowance: u32, buffer: &mut [u8]) -> Answer
     ensures answer { λ r. ⌜ r ≡ answered (printing (contents sheet table) allowance (length (now (buffer .entry)))) ⌝ }

@@ -31,12 +31,19 @@ fn cut_reaches(valuation: Row, agents: usize, items: usize, cut: Sets, share: u6
     true
 }
 
-// Whether the line of an agent with this valuation and this share is true.
-fn line_true(valuation: Row, agents: usize, items: usize, share: u64, line: StatedLine) -> bool
+// Whether the line of an agent with this valuation, this share and a bundle of this worth is true.
+fn line_true(
+    valuation: Row,
+    agents: usize,
+    items: usize,
+    share: u64,
+    worth: u64,
+    line: StatedLine,
+) -> bool
     requires { ⌜ InUse agents items ⌝ }
-    ensures { λ r. ⌜ r ≡ lineTrueTo agents items valuation share (statedLine agents line) ⌝ }
+    ensures { λ r. ⌜ r ≡ lineTrueTo agents items valuation share worth (statedLine agents line) ⌝ }
 {
-    if line.worth != value_in_use(valuation, line.bundle, items) {
+    if line.worth != worth {
         return false;
     }
     if line.share != share {
@@ -46,22 +53,23 @@ fn line_true(valuation: Row, agents: usize, items: usize, share: u64, line: Stat
     cut_reaches(valuation, agents, items, cut, share)
 }
 
-// Whether the lines of the first `agents` agents are true, by the table and by their shares.
+// Whether the lines of the first `agents` agents are true, by the table, their shares and the worths of their bundles.
 fn lines_true(
     table: Table,
     agents: usize,
     items: usize,
     shares: Amounts,
+    worths: Amounts,
     lines: [StatedLine; Sheet::AGENTS],
 ) -> bool
     requires { ⌜ (agents ≤ mostAgents) × (items ≤ mostItems) ⌝ }
-    ensures { λ r. ⌜ r ≡ linesTrue agents items table shares lines ⌝ }
+    ensures { λ r. ⌜ r ≡ linesTrue agents items table shares worths lines ⌝ }
 {
     let mut i: usize = 0;
     while i < agents {
         let valuation = table[i];
         let line = lines[i];
-        if !line_true(valuation, agents, items, shares[i], line) {
+        if !line_true(valuation, agents, items, shares[i], worths[i], line) {
             return false;
         }
         i += 1;
@@ -75,15 +83,16 @@ pub fn figures_true(
     agents: usize,
     items: usize,
     shares: Amounts,
+    worths: Amounts,
     lines: [StatedLine; Sheet::AGENTS],
     grade: u8,
     stated: u8,
 ) -> bool
-    ensures { λ r. ⌜ r ≡ figuresTrueBy (min agents mostAgents) (min items mostItems) table shares lines grade stated ⌝ }
+    ensures { λ r. ⌜ r ≡ figuresTrueBy (min agents mostAgents) (min items mostItems) table shares worths lines grade stated ⌝ }
 {
     let last = lesser(agents, Sheet::AGENTS);
     let counted = lesser(items, Sheet::ITEMS);
-    if !lines_true(table, last, counted, shares, lines) {
+    if !lines_true(table, last, counted, shares, worths, lines) {
         return false;
     }
     stated == grade

@@ -44,14 +44,14 @@ module _ (n m : ℕ) where
   abbrev pub leastTo : List ℕ → List (List ℕ) → ℕ
   leastTo row cut = leastOf (λ c. value (allValues m row) (nth [] cut c)) n
 
-  -- whether the line of an agent with this valuation and this share is true
-  abbrev pub lineTrueTo : List ℕ → ℕ → StatedLine → Bool
-  lineTrueTo row share l = eqb (l .worth) (value (allValues m row) (l .bundle)) && eqb (l .share) share && leb share (leastTo row (l .cut))
+  -- whether the line of an agent with this valuation, this share and a bundle of this worth is true
+  abbrev pub lineTrueTo : (row : List ℕ) (share worth : ℕ) (l : StatedLine) → Bool
+  lineTrueTo row share worth l = eqb (l .worth) worth && eqb (l .share) share && leb share (leastTo row (l .cut))
 
-  -- whether all lines are true, by the agents' valuations and shares
-  abbrev pub linesTrue : List (List ℕ) → List ℕ → List line.StatedLine → Bool
-  linesTrue table shares lines = all (λ i. lineTrueTo (valuationOf table i) (nth 0 shares i) (statedLine n (nth noLine lines i))) (range 1 n)
+  -- whether all lines are true, by the agents' valuations, their shares and the worths of their bundles
+  abbrev pub linesTrue : (table : List (List ℕ)) (shares worths : List ℕ) (lines : List line.StatedLine) → Bool
+  linesTrue table shares worths lines = all (λ i. lineTrueTo (valuationOf table i) (nth 0 shares i) (nth 0 worths i) (statedLine n (nth noLine lines i))) (range 1 n)
 
   -- whether all lines are true, and the grade that is stated is the grade
-  abbrev pub figuresTrueBy : (table : List (List ℕ)) (shares : List ℕ) (lines : List line.StatedLine) (grade stated : ℕ) → Bool
-  figuresTrueBy table shares lines grade stated = linesTrue table shares lines && eqb stated grade
+  abbrev pub figuresTrueBy : (table : List (List ℕ)) (shares worths : List ℕ) (lines : List line.StatedLine) (grade stated : ℕ) → Bool
+  figuresTrueBy table shares worths lines grade stated = linesTrue table shares worths lines && eqb stated grade

@@ -1,4 +1,4 @@
-// Writing the strict text of a table of marks into a lent buffer (document 01, "The sheet"). Its meaning stands in the specs of strict_text.
+// Writing the strict text of a sheet into a lent buffer (document 01, "The sheet"). Its meaning stands in the specs of strict_text.
 ghost use mathlib.Core.Path.{_≡_};
 ghost use lib.ListN.{length};
 ghost use Rattle.sheet.specs.Answers.{after};

@@ -32,7 +32,7 @@ use Rattle.judging.proofs.judge_shared.Tie as tie
 
 -- the points before the one where all is tried: the division is assessed, the sets are worked out, and the start
 abbrev at-assess : tie.After-figures-true → tie.After-assess
-at-assess c = c .before .before .before .before
+at-assess c = c .before .before .before .before .before
 
 abbrev sets : tie.After-figures-true → tie.After-bundles-of
 sets c = at-assess c .before
@@ -116,8 +116,8 @@ figures-told : (c : tie.After-figures-true) → let s = start c in figuresTrue (
 figures-told c =
     let s = start c in
     let a = s .args in
-    figures-stated (sheetIn s) (s .pre .0) (a .stated .grade) (a .stated .lines) (sets c .bundles-of .ensures .1) (a .terms) (at-assess c .assess .result .grade) (grade-told c)
-    ∙ ap₂ (λ n m. figuresTrueBy n m (a .table) (a .shares) (a .stated .lines) (at-assess c .assess .result .grade) (a .stated .grade)) (agents-kept c) (items-kept c)
+    figures-stated (sheetIn s) (s .pre .0) (a .stated .grade) (a .stated .lines) (sets c .bundles-of .ensures .1) (ap (λ r. r .worths) (assessed-told c)) (a .terms) (at-assess c .assess .result .grade) (grade-told c)
+    ∙ ap₂ (λ n m. figuresTrueBy n m (a .table) (a .shares) (at-assess c .assess .result .worths) (a .stated .lines) (at-assess c .assess .result .grade) (a .stated .grade)) (agents-kept c) (items-kept c)
     ∙ sym (c .figures-true .ensures)
 
 -- the answer on what is read, or on nothing
