@@ -17,7 +17,7 @@ use Rattle.terms.specs.Allowed.{AtMostStandard}
 use Rattle.terms.specs.declared.Terms.{Terms}
 use Rattle.sheet.specs.Tables.{AgreeInUse}
 use Rattle.rounds.specs.Round.{Instance, itemsSuit, Round, round}
-use Rattle.rounds.specs.Division.{Division, instanceOfTable, standardInstance, allRounds, answer}
+use Rattle.rounds.specs.Division.{Division, instanceOfSheet, standardInstance, allRounds, answer}
 use Rattle.terms.proofs.Allowed.{termsFor-at-most-standard}
 use Rattle.sheet.proofs.valuing.Tables.{profile-agree}
 use Rattle.rounds.proofs.round.Parts.{round-begins}
@@ -30,7 +30,7 @@ use Rattle.rounds.proofs.Answers.{answer-accepted}
 -- the rounds of a table, by any terms that promise no more than document 01
 module _ (n m : ℕ) (terms : Terms) (table : List (List ℕ)) (allowed : AtMostStandard n terms) where
   abbrev G : Instance
-  G = instanceOfTable (sheetOf n m table) terms
+  G = instanceOfSheet (sheetOf n m table) terms
 
   -- serving never fails: in every round there is a bundle for each agent served
   pub every-round-serves : (r : Round) → Mem r (allRounds n m G) → length (r .bundles) ≡ length (r .served)

@@ -28,12 +28,12 @@ abbrev pub instanceOf : ℕ → Terms → List (List ℕ) → Instance
 instanceOf n terms valuations = record { terms = terms; valuations = valuations; shares = map (maximinShare n) valuations }
 
 -- the agents of a sheet, by the terms
-abbrev pub instanceOfTable : Contents → Terms → Instance
-instanceOfTable sheet terms = instanceOf (sheet .agents) terms (valuationsOf sheet)
+abbrev pub instanceOfSheet : Contents → Terms → Instance
+instanceOfSheet sheet terms = instanceOf (sheet .agents) terms (valuationsOf sheet)
 
 -- the same by the terms of the sheet
 abbrev pub standardInstance : Contents → Instance
-standardInstance sheet = instanceOfTable sheet (termsOf sheet)
+standardInstance sheet = instanceOfSheet sheet (termsOf sheet)
 
 module _ (n m : ℕ) (G : Instance) where
   -- the rounds from n agents and the items 1 .. m
@@ -63,11 +63,11 @@ module _ (n m : ℕ) (G : Instance) where
 
 -- the division of a sheet by the rounds, with any terms
 abbrev pub divisionByTerms : Contents → Terms → Division
-divisionByTerms sheet terms = divisionOf (sheet .agents) (sheet .items) (instanceOfTable sheet terms)
+divisionByTerms sheet terms = divisionOf (sheet .agents) (sheet .items) (instanceOfSheet sheet terms)
 
 -- the division of a sheet by the rounds of document 01
 abbrev pub divisionByRounds : Contents → Division
-divisionByRounds sheet = divisionOf (sheet .agents) (sheet .items) (standardInstance sheet)
+divisionByRounds sheet = divisionByTerms sheet (termsOf sheet)
 
 -- "Dividing a table directly", with an allowance: the refusals of its shares, 14 among them, else its division
 unfoldable pub answer : Contents → ℕ → Answer Division

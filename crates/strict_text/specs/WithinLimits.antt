@@ -6,12 +6,12 @@ use Rattle.sheet.specs.Limits.{greatestMark, CountsWithin}
 use Rattle.sheet.specs.Contents.{Contents}
 use Rattle.sheet_lines.specs.Marks.{allowedRow}
 use Rattle.sheet_lines.specs.Kept.{tableOf}
-use Rattle.strict_text.specs.StrictText.{rowsInUse}
+use Rattle.strict_text.specs.StrictText.{linesOf}
 
 pub record WithinLimits (c : Contents) : Type 0 where
   -- "1 to 6 yards and 1 to 12 pieces"
   pub counts : CountsWithin (c .agents) (c .items)
   -- "six rows of twelve places", blank beyond the yards and pieces in use
-  pub blank-beyond : c .table ≡ tableOf (rowsInUse (c .agents) (c .items) (c .table))
+  pub blank-beyond : c .table ≡ tableOf (linesOf c .rows)
   -- "A mark is a whole number from 0 to" the greatest
-  pub marks-allowed : all (allowedRow greatestMark) (rowsInUse (c .agents) (c .items) (c .table)) ≡ true
+  pub marks-allowed : all (allowedRow greatestMark) (linesOf c .rows) ≡ true

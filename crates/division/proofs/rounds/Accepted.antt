@@ -26,7 +26,7 @@ use Rattle.grading.specs.declared.Assessed.{Assessed}
 use Rattle.serving.specs.Serving.{agentsIn}
 use Rattle.serving.proofs.round.AgentsLeft.{agentsIn-items}
 use Rattle.terms.specs.declared.Terms.{Terms}
-use Rattle.rounds.specs.Division.{instanceOfTable, allRounds, allocation, divisionOf, divisionByTerms}
+use Rattle.rounds.specs.Division.{instanceOfSheet, allRounds, allocation, divisionOf, divisionByTerms}
 use Rattle.rounds.proofs.Allocation.{sound, allocation-sublist}
 use Rattle.division.specs.Outcome.{outcome}
 use Rattle.division.specs.internal.Left.{instanceFrom, cutLeft, Ready}
@@ -98,7 +98,7 @@ module _ {n m : ℕ} {table : List (List ℕ)} {terms : Terms} {allowance : ℕ}
 
   -- the bundles of the division
   abbrev bundles : List (List ℕ)
-  bundles = allocation n m (instanceOfTable (sheetOf n m table) terms)
+  bundles = allocation n m (instanceOfSheet (sheetOf n m table) terms)
 
   -- the same as sets, in their places
   abbrev pub placedSets : List ℕ
@@ -106,7 +106,7 @@ module _ {n m : ℕ} {table : List (List ℕ)} {terms : Terms} {allowance : ℕ}
 
   -- the cutters in turn, in their places
   abbrev pub placedCutters : List ℕ
-  placedCutters = padded mostAgents 0 (map (λ r. r .cutter) (allRounds n m (instanceOfTable (sheetOf n m table) terms)))
+  placedCutters = padded mostAgents 0 (map (λ r. r .cutter) (allRounds n m (instanceOfSheet (sheetOf n m table) terms)))
 
   bundle-sublist : (i : ℕ) → Sublist (getD bundles i []) (range 1 m)
   bundle-sublist = getD-holds (λ b. Sublist b (range 1 m)) (nil-sublist (range 1 m)) bundles (allocation-sublist n m terms table)

@@ -12,17 +12,17 @@ use Rattle.shares.specs.Known.{SharesIn}
 use Rattle.shares.proofs.Outcomes.{nth-shares-known}
 use Rattle.terms.specs.declared.Terms.{Terms}
 use Rattle.rounds.specs.Round.{rounds}
-use Rattle.rounds.specs.Division.{instanceOfTable, allRounds}
+use Rattle.rounds.specs.Division.{instanceOfSheet, allRounds}
 use Rattle.rounds.proofs.round.Congruence.{Alike, rounds-cong}
 use Rattle.division.specs.internal.Left.{instanceFrom}
 
 module _ {n m : ℕ} {table : List (List ℕ)} {shares : List ℕ} (known : SharesIn (sheetOf n m table) shares) where
-  alike-placed : (terms : Terms) → Alike (instanceFrom terms table shares) (instanceOfTable (sheetOf n m table) terms) (range 1 n) (range 1 m)
+  alike-placed : (terms : Terms) → Alike (instanceFrom terms table shares) (instanceOfSheet (sheetOf n m table) terms) (range 1 n) (range 1 m)
   alike-placed terms =
       record {
         same-suiting = λ agent i part s. ap₂ (λ share values. leb (terms .top * share) (terms .bottom * total values)) (nth-shares-known known i) (sym (values-profile n m table i s));
         same-cuts = λ agent i k part s. ap (maximinPartition k) (sym (values-profile n m table i s));
       }
 
-  pub rounds-placed : (terms : Terms) → rounds (instanceFrom terms table shares) n (range 1 n) (range 1 m) ≡ allRounds n m (instanceOfTable (sheetOf n m table) terms)
+  pub rounds-placed : (terms : Terms) → rounds (instanceFrom terms table shares) n (range 1 n) (range 1 m) ≡ allRounds n m (instanceOfSheet (sheetOf n m table) terms)
   rounds-placed terms = rounds-cong n (range 1 n) (range 1 m) (alike-placed terms)
