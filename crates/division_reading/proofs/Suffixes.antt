@@ -21,13 +21,13 @@ bundleInTurn-leaves items turn ts =
 pub cutBundles-leave : (agents items : ℕ) (ts : List Token) → LeavesEnd (λ r. r .1) ts (cutBundles agents items ts)
 cutBundles-leave agents items ts = inTurn-leaves (λ number. bundleAfter (form beforeCutPile) items) (λ number. bundleAfter-leaves (form beforeCutPile) items) 1 agents ts
 
-pub yardLine-leaves : (agents items turn : ℕ) (ts : List Token) → LeavesEnd (λ r. r .1) ts (divisionLine agents items turn ts)
+pub divisionLine-leaves : (agents items turn : ℕ) (ts : List Token) → LeavesEnd (λ r. r .1) ts (divisionLine agents items turn ts)
 unfolding divisionLine
-yardLine-leaves agents items turn ts =
+divisionLine-leaves agents items turn ts =
     then-leaves ts (bundleInTurn items turn ts) _ (λ r. r .1) (λ r. r .1) (bundleInTurn-leaves items turn ts)
     (λ b. then-leaves (b .1) (statedAmounts (b .1)) _ (λ r. r .2) (λ r. r .1) (statedAmounts-leave (b .1))
     (λ a. then-leaves (a .2) (cutBundles agents items (a .2)) _ (λ r. r .1) (λ r. r .1) (cutBundles-leave agents items (a .2))
     (λ cut. then-leaves (cut .1) (follow (form lineEnd) (cut .1)) _ (λ us. us) (λ r. r .1) (follow-leaves (form lineEnd) (cut .1)) (λ us. suffix-refl us))))
 
-pub yardLines-leave : (agents items : ℕ) (ts : List Token) → LeavesEnd (λ r. r .1) ts (divisionLines agents items ts)
-yardLines-leave agents items ts = inTurn-leaves (divisionLine agents items) (yardLine-leaves agents items) 1 agents ts
+pub divisionLines-leave : (agents items : ℕ) (ts : List Token) → LeavesEnd (λ r. r .1) ts (divisionLines agents items ts)
+divisionLines-leave agents items ts = inTurn-leaves (divisionLine agents items) (divisionLine-leaves agents items) 1 agents ts

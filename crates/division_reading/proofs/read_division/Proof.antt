@@ -18,7 +18,7 @@ use Rattle.sheet_lines.specs.Grammar.{endLine}
 use Rattle.division_reading.specs.Grammar.{divisionHead, divisionLines, divisionText, readingDivision}
 use Rattle.division_reading.specs.Outcome.{kept}
 use Rattle.division_reading.specs.declared.Stated.{Stated}
-use Rattle.division_reading.proofs.Suffixes.{yardLines-leave}
+use Rattle.division_reading.proofs.Suffixes.{divisionLines-leave}
 use Rattle.division_reading.proofs.Shape.{grade-below}
 use Rattle.division_reading.proofs.kept.InTurn.{linesTell}
 use Rattle.division_reading.proofs.kept.Division.{too-many-agents, too-many-items, readingDivision-text}
@@ -60,7 +60,7 @@ lines-read : (c : tie.Else3) → let h = head-point c in
     let a = start (counts-point h) .args in
     let place = h .grade .given .0 .1 .0 in
     Told linesTell (now (a .s)) place (divisionLines (a .agents) (a .items) (tokensAt (now (a .s)) place)) (c .before .before .division-lines .result)
-lines-read c = told-read linesTell _ _ _ (yardLines-leave _ _ _) (c .before .before .division-lines .ensures) (not-false (c .before .before .division-lines .result .read) (c .if3 .left))
+lines-read c = told-read linesTell _ _ _ (divisionLines-leave _ _ _) (c .before .before .division-lines .ensures) (not-false (c .before .before .division-lines .result .read) (c .if3 .left))
 
 text-ended : (c : tie.After-enum-told2) → let l = lines-point c in
     let s = now (start (counts-point (head-point l)) .args .s) in

@@ -13,7 +13,7 @@ use Rattle.lexing.proofs.readers.Stored.{storedFrom, next-missed, next-stored, 
 use Rattle.division_reading.specs.Grammar.{divisionLines}
 use Rattle.division_reading.specs.internal.Results.{linesFrom}
 use Rattle.division_reading.specs.declared.lines.Lines.{Lines}
-use Rattle.division_reading.proofs.Suffixes.{yardLine-leaves}
+use Rattle.division_reading.proofs.Suffixes.{divisionLine-leaves}
 use Rattle.division_reading.proofs.kept.InTurn.{lineTells, linesRead, linesStored, no-line-stored}
 use Rattle.division_reading.proofs.lines.division_lines.Statement.{statement}
 use Rattle.division_reading.proofs.lines.division_lines.Tie as tie
@@ -69,7 +69,7 @@ loop-again c =
     let line = c .before .before .before .before in
     let loop = line .before .before in
     let e = not-false (line .division-line .result .read) (c .before .if1 .left) in
-    let read = told-read lineTells _ _ _ (yardLine-leaves _ _ _ _) (line .division-line .ensures) e in (
+    let read = told-read lineTells _ _ _ (divisionLine-leaves _ _ _ _) (line .division-line .ensures) e in (
       omega arith,
       simp length-set (loop .loop .inv .1),
       reached-then (loop .loop .inv .2) (read .to .reached),
