@@ -1,4 +1,6 @@
 // Reading a bundle (pile) of a division at any place of a text: its items, in rising order, as a set.
+#![tactic(auto)]
+
 ghost use Rattle.std.specs.Prelude.{◌≤◌, ◌-◌, ◌^◌, min, ◌≡◌};
 ghost use Rattle.sheet.specs.Limits.{most_items};
 ghost use Rattle.tokens.specs.Tokens.{tokens};
@@ -14,7 +16,7 @@ use tokeniser::Cursor;
 const PILE_END: [u8; 1] = *b")";
 
 // A bundle (pile) as a set, and the place after it.
-#[derive(Drop)]
+#[derive(Clone, Copy)]
 pub enum Bundle {
     Items(u16, Cursor),
     Missed,

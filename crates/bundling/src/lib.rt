@@ -1,4 +1,6 @@
 // The bundles (piles) of a partition (layout), as lists and as sets of items.
+#![tactic(auto)]
+
 ghost use Rattle.std.specs.Prelude.{◌≡◌};
 ghost use Rattle.sheet.specs.Sets.{items_of};
 ghost use Rattle.sheet.specs.Listed.{numbered};

@@ -2,6 +2,8 @@
 // into bundles (piles) that reaches it; or, where an allowance stops the search, the best among the first growth partitions.
 // The search walks the growth partitions depth first and leaves a branch that cannot be better. Where the allowance is enough it works out
 // the share first, which does not depend on the order of the values, and then looks for the first partition that reaches it.
+#![tactic(auto)]
+
 ghost use Rattle.std.specs.Prelude.{◌≡◌, ◌≤◌, ◌<◌, leb, length, replicate};
 ghost use Rattle.lists.specs.Sums.{total};
 ghost use Rattle.sheet.specs.Limits.{most_agents, most_items, greatest_sum};
@@ -21,7 +23,7 @@ mod sharing;
 mod sorting;
 
 // The share; where the allowance stopped the cut, the best least bundle; or the number of the reason why the cut is refused.
-#[derive(Drop)]
+#[derive(Clone, Copy)]
 pub enum Answer {
     Refused(u8),
     Share(u64),
@@ -35,7 +37,7 @@ pub type Partition = [u8; Sheet::ITEMS];
 type Values = [u64; Sheet::ITEMS];
 
 // The answer, the partition that reaches it, and the number of growth partitions looked at; all 0 where the cut is refused.
-#[derive(Drop)]
+#[derive(Clone, Copy)]
 pub struct Outcome {
     pub answer: Answer,
     pub partition: Partition,

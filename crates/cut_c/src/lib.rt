@@ -1,4 +1,6 @@
 // Cutting for callers in C or Rust: numbers and places that the caller lends, by C's calling convention.
+#![tactic(auto)]
+
 ghost use Rattle.std.specs.Prelude.{◌≡◌};
 ghost use Rattle.sheet.specs.Answers.{after};
 ghost use Rattle.cut.specs.Outcome.{cutting};

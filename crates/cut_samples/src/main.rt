@@ -1,5 +1,7 @@
 // Cuts sample rows: prints the marks of a row, and for each of its cuts the set, the number of bundles and the allowance, and the share
 // or where the cut was stopped, with its partition and the number of growth partitions, or the refusal.
+#![tactic(auto)]
+
 use cut::{Answer, Partition};
 use libc::STDOUT_FILENO;
 use sheet::{Mark, Row, Sheet};

@@ -19,7 +19,7 @@ use sheet::{Sets, Sheet, Table};
 use terms::Terms;
 
 // What has been handed out: the set of items of each agent, the cutter of each round in turn (0 after the last), the number of rounds.
-#[derive(Drop)]
+#[derive(Clone, Copy)]
 pub struct Allocation {
     pub bundles: Sets,
     pub cutters: [u8; Sheet::AGENTS],

@@ -1,4 +1,6 @@
 // Dividing a table of marks among its agents (yards). Its meaning stands in specs/ and in the crate `rounds`, the promise in proofs/Theorems.antt.
+#![tactic(auto)]
+
 ghost use Rattle.std.specs.Prelude.{◌≡◌};
 ghost use Rattle.sheet.specs.Answers.{refused, accepted};
 ghost use Rattle.sheet.specs.Contents.{contents};
@@ -22,7 +24,7 @@ mod dividing;
 pub const ALLOWANCE: u32 = 4000000;
 
 // The number of the reason why the table is refused, or that it is divided.
-#[derive(Drop)]
+#[derive(Clone, Copy)]
 pub enum Answer {
     Refused(u8),
     Divided,
@@ -30,7 +32,7 @@ pub enum Answer {
 
 // The answer; the grade; for each agent the worth of its bundle, the bundle as a set of items, its maximin share and its cut; the cutter
 // of each round in turn. All places that are not in use are 0, and so are all where the table is refused.
-#[derive(Drop)]
+#[derive(Clone, Copy)]
 pub struct Outcome {
     pub answer: Answer,
     pub grade: u8,

@@ -1,4 +1,6 @@
 // Dividing a table for callers in C or Rust, by C's calling convention.
+#![tactic(auto)]
+
 ghost use Rattle.std.specs.Prelude.{◌≡◌};
 ghost use Rattle.sheet.specs.Contents.{sheet_of};
 ghost use Rattle.sheet.specs.Answers.{number_of, after};

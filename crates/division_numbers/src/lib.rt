@@ -1,4 +1,6 @@
 // Reading the numbers that a division states at any place of a text: counts and grade in its head, worth and share in a yard line.
+#![tactic(auto)]
+
 ghost use Rattle.std.specs.Prelude.{◌≡◌};
 ghost use Rattle.tokeniser.specs.Places.{tokens_at};
 ghost use Rattle.lexing.specs.Results.{number_from};
@@ -26,7 +28,7 @@ const BEFORE_CUT: [u8; 6] = *b") (cut";
 const GRADE_DIGITS: usize = 1;
 
 // A worth and a share, and the place after them.
-#[derive(Drop)]
+#[derive(Clone, Copy)]
 pub enum StatedAmounts {
     Values(u64, u64, Cursor),
     Missed,

@@ -1,4 +1,6 @@
 // Reading a division, as members bring it, at a place of a text: all that it states, or that it is off the layout.
+#![tactic(auto)]
+
 ghost use Rattle.std.specs.Prelude.{◌≡◌};
 ghost use Rattle.std.proofs.Math.Option.{none};
 ghost use Rattle.tokeniser.specs.Places.{tokens_at};
@@ -15,7 +17,7 @@ pub mod forms;
 mod lines;
 
 // What the line of one agent (yard) states: its bundle (pile), the value (worth) of that, its share, and its cut.
-#[derive(Drop)]
+#[derive(Clone, Copy)]
 pub struct StatedLine {
     pub bundle: u16,
     pub worth: u64,
@@ -24,7 +26,7 @@ pub struct StatedLine {
 }
 
 // What a division states, where it is read.
-#[derive(Drop)]
+#[derive(Clone, Copy)]
 pub struct Stated {
     pub read: bool,
     pub grade: u8,

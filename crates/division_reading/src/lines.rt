@@ -16,7 +16,7 @@ use sheet_lines::forms::{BEFORE_TURN, LINE_END};
 use tokeniser::Cursor;
 
 // The bundles of a cut, and the place after them.
-#[derive(Drop)]
+#[derive(Clone, Copy)]
 pub struct Cut {
     pub read: bool,
     pub sets: Sets,
@@ -24,7 +24,7 @@ pub struct Cut {
 }
 
 // What a yard line states, and the place after it.
-#[derive(Drop)]
+#[derive(Clone, Copy)]
 pub struct Line {
     pub read: bool,
     pub line: StatedLine,
@@ -32,7 +32,7 @@ pub struct Line {
 }
 
 // What the yard lines state, and the place after them.
-#[derive(Drop)]
+#[derive(Clone, Copy)]
 pub struct Lines {
     pub read: bool,
     pub lines: [StatedLine; Sheet::AGENTS],

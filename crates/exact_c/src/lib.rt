@@ -1,4 +1,6 @@
 // The search for an exact division for callers in C or Rust, by C's calling convention.
+#![tactic(auto)]
+
 ghost use Rattle.sheet.specs.Contents.{sheet_of};
 ghost use Rattle.exact_c.specs.Lent.{TableStored, TextStored};
 

@@ -1,4 +1,6 @@
 // How many of the first agents (yards) can be served from each set of items (pieces), agent after agent.
+#![tactic(auto)]
+
 ghost use Rattle.std.specs.Prelude.{◌≡◌, ◌<◌, min};
 ghost use Rattle.sheet.specs.Limits.{most_agents, most_items};
 ghost use Rattle.exact_levels.specs.Levels.{levels_of};

@@ -1,4 +1,6 @@
 // Printing an exact division of a sheet, or the word none, into a lent buffer (document 02, order 4). Its meaning stands in specs/.
+#![tactic(auto)]
+
 ghost use Rattle.std.specs.Prelude.{◌≡◌, ◌≤◌, length};
 ghost use mathlib.Core.List.{flat_map};
 ghost use Rattle.lists.specs.Lists.{range};

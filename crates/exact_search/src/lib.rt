@@ -1,5 +1,7 @@
 // The search for a division of a sheet in which every agent (yard) has its whole maximin share (document 02, order 4). Its meaning
 // stands in specs/ and in the crate `exact_division`.
+#![tactic(auto)]
+
 ghost use Rattle.std.specs.Prelude.{◌≡◌, []};
 ghost use Rattle.sheet.specs.Answers.{refused};
 ghost use Rattle.sheet.specs.Contents.{sheet_of, contents};
@@ -17,7 +19,7 @@ mod handing;
 mod parts;
 
 // The number of the reason why the sheet is refused, or whether there is an exact division.
-#[derive(Drop)]
+#[derive(Clone, Copy)]
 pub enum Answer {
     Refused(u8),
     None,
@@ -25,7 +27,7 @@ pub enum Answer {
 }
 
 // The answer; where a division is found, for each agent its bundle as a set of items. All other places are 0.
-#[derive(Drop)]
+#[derive(Clone, Copy)]
 pub struct Outcome {
     pub answer: Answer,
     pub bundles: Sets,

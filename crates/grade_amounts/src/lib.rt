@@ -1,4 +1,6 @@
 // The amounts that the tests of the grade compare, for each agent of a table.
+#![tactic(auto)]
+
 ghost use Rattle.std.specs.Prelude.{◌≡◌, [], map, ◌≤◌, min, max};
 ghost use Rattle.lists.specs.Lists.{nth};
 ghost use Rattle.lists.specs.Sums.{greatest_of};
@@ -16,7 +18,7 @@ use sheet::{Row, Sets, Sheet, Table, lesser};
 
 // What the grade goes by besides the shares, for each agent: the value of its own bundle, the greatest value that it sees in any
 // bundle, the value of its own bundle times the number of agents, and the value of all items.
-#[derive(Drop)]
+#[derive(Clone, Copy)]
 pub struct Compared {
     pub own: Amounts,
     pub greatest: Amounts,

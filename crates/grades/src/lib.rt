@@ -1,1 +1,3 @@
 // The grade of an allocation and the scale that the grades are: definitions and laws, no code.
+#![tactic(auto)]
+

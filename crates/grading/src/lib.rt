@@ -1,4 +1,6 @@
 // What an allocation of the items of a table comes to: the worths of the bundles, the margins and the grade.
+#![tactic(auto)]
+
 ghost use Rattle.std.specs.Prelude.{◌≡◌, min};
 ghost use Rattle.sheet.specs.Limits.{most_agents};
 ghost use Rattle.sheet.specs.Contents.{contents};
@@ -13,7 +15,7 @@ use sheet::{Sets, Sheet, Table};
 use terms::Terms;
 
 // The worth of each agent's bundle and its margin, 0 after the last agent, and the grade.
-#[derive(Drop)]
+#[derive(Clone, Copy)]
 pub struct Assessed {
     pub worths: Amounts,
     pub margins: Margins,

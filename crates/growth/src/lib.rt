@@ -1,4 +1,6 @@
 // How many growth partitions (growth layouts) items have, worked out by the recurrence that counts them. Their meaning stands in specs/.
+#![tactic(auto)]
+
 ghost use Rattle.std.specs.Prelude.{◌≡◌, ◌≤◌, min};
 ghost use Rattle.sheet.specs.Limits.{most_agents, most_items};
 ghost use Rattle.growth.specs.Growth.{growths};

@@ -1,4 +1,6 @@
 // The program: a sheet with a division behind it on standard input, the margins of its yards or one line such as `(refused 13)` on standard output.
+#![tactic(auto)]
+
 use libc::{STDIN_FILENO, STDOUT_FILENO};
 use sheet::Sheet;
 use sheet_to_judgement::accepted;

@@ -1,4 +1,6 @@
 // Judging a division that others bring: the refusal's number, or that all it states is true, with the margin of each agent.
+#![tactic(auto)]
+
 ghost use Rattle.std.specs.Prelude.{◌≡◌, map, length};
 ghost use Rattle.sheet.specs.Limits.{most_agents};
 ghost use Rattle.sheet.specs.Contents.{contents};
@@ -20,14 +22,14 @@ use stated_items::{Test, all_pass};
 use terms::{Terms, terms_for};
 
 // The number of the reason why the division is refused, or that it is accepted.
-#[derive(Drop)]
+#[derive(Clone, Copy)]
 pub enum Answer {
     Refused(u8),
     Accepted,
 }
 
 // The answer, and the margin of each agent; 0 after the last agent, and where the division is refused.
-#[derive(Drop)]
+#[derive(Clone, Copy)]
 pub struct Outcome {
     pub answer: Answer,
     pub margins: Margins,

@@ -12,14 +12,14 @@ use numerals::{Numeral, read_digits};
 use tokeniser::{Cursor, Token, ended, next_token};
 
 // The place after the tokens of a form.
-#[derive(Drop)]
+#[derive(Clone, Copy)]
 pub enum Followed {
     At(Cursor),
     Missed,
 }
 
 // A number, and the place after it.
-#[derive(Drop)]
+#[derive(Clone, Copy)]
 pub enum Number {
     Value(u64, Cursor),
     Missed,

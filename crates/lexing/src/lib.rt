@@ -1,2 +1,4 @@
 // Readers of forms and numbers at any place of a text.
+#![tactic(auto)]
+
 pub mod forms;

@@ -1,4 +1,6 @@
 // By how much a bundle is worth more or less than the part of its maximin share that its agent is promised (the margin).
+#![tactic(auto)]
+
 ghost use Rattle.std.specs.Prelude.{◌≡◌, min};
 ghost use Rattle.sheet.specs.Limits.{most_agents};
 ghost use Rattle.margins.specs.Margins.{limited_margin, margins_stored, none_negative};

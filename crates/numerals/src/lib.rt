@@ -1,10 +1,12 @@
 // Numbers in decimal digits, read from their bytes.
+#![tactic(auto)]
+
 ghost use Rattle.std.specs.Prelude.{◌≤◌, ◌<◌, min, ◌≡◌, true, length};
 ghost use Rattle.numerals.specs.Numerals.{longest_number, all_digits, no_leading_zero, is_number, digits_after, numeral_value};
 ghost use Rattle.numerals.specs.Outcome.{outcome};
 
 // The value of a number, or that the bytes are none.
-#[derive(Drop)]
+#[derive(Clone, Copy)]
 pub enum Numeral {
     Value(u64),
     Missed,

@@ -1,4 +1,6 @@
 // The text of a division, line behind line, from the front of a lent buffer.
+#![tactic(auto)]
+
 ghost use mathlib.Core.List.{flat_map};
 ghost use Rattle.std.specs.Prelude.{◌≤◌, min};
 ghost use Rattle.lists.specs.Lists.{range};

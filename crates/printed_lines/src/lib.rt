@@ -1,4 +1,6 @@
 // The lines of the printed division, each written into a lent buffer. Each function returns the place of the byte that comes next.
+#![tactic(auto)]
+
 ghost use Rattle.std.specs.Prelude.{min};
 ghost use Rattle.sheet.specs.Limits.{most_agents, most_items};
 ghost use Rattle.sheet.specs.Sets.{items_of};

@@ -1,4 +1,6 @@
 // Printing the division of a sheet into a lent buffer (document 01, "The printed division"). Its meaning stands in specs/.
+#![tactic(auto)]
+
 ghost use Rattle.std.specs.Prelude.{◌≡◌, ◌≤◌, length};
 ghost use Rattle.sheet.specs.Limits.{InUse};
 ghost use Rattle.sheet.specs.Contents.{contents};

@@ -1,4 +1,6 @@
 // Reading a sheet of marks from bytes: the refusal's number, or the counts, and the table of marks.
+#![tactic(auto)]
+
 ghost use Rattle.std.specs.Prelude.{◌≡◌};
 ghost use Rattle.sheet.specs.Limits.{mark_limits};
 ghost use Rattle.sheet_lines.specs.Alone.{may_follow};
@@ -14,21 +16,21 @@ use sheet_lines::yards::Yard;
 use tokeniser::Cursor;
 
 // What reading answers: the number of the reason to refuse the text, or the counts.
-#[derive(Drop)]
+#[derive(Clone, Copy)]
 pub enum Answer {
     Refused(u8),
     Accepted(Sheet),
 }
 
 // The answer, and what the lines of the yards give, which is blank where the text is refused.
-#[derive(Drop)]
+#[derive(Clone, Copy)]
 pub struct Outcome {
     pub answer: Answer,
     pub rows: [Yard; Sheet::AGENTS],
 }
 
 // The outcome of the sheet at the front of a text, and the place behind its last line, or the start of a text that is refused.
-#[derive(Drop)]
+#[derive(Clone, Copy)]
 pub struct Front {
     pub outcome: Outcome,
     pub next: Cursor,

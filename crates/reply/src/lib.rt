@@ -1,4 +1,6 @@
 // What becomes of an answer: the text that a program writes, and what a caller by C's calling convention is told.
+#![tactic(auto)]
+
 ghost use Rattle.std.specs.Prelude.{◌≡◌};
 ghost use Rattle.writing.specs.Output.{output, Written};
 ghost use Rattle.reply.specs.Replies.{refusal_line, reply_into, Front};

@@ -1,5 +1,7 @@
 // Runs the entries on sample texts, which stand in the files that the arguments name: for each file its name, what the programs `shareout`,
 // `strict`, `exact` and `judge` print for its text, and what they print where the buffer is one byte shorter than the text that they write.
+#![tactic(auto)]
+
 use libc::STDOUT_FILENO;
 use printing::LONGEST;
 use reply::reply;
@@ -10,7 +12,7 @@ use writing::Answer;
 const ROOM: usize = Sheet::LONGEST_TEXT + 1;
 
 // A program that takes a text and prints an answer.
-#[derive(Drop)]
+#[derive(Clone, Copy)]
 enum Program {
     Shareout,
     Strict,

@@ -1,4 +1,6 @@
 // One round of the agents (yards) left: who cuts, who waits, and who is served with which bundle (pile).
+#![tactic(auto)]
+
 ghost use Rattle.std.specs.Prelude.{◌≡◌};
 ghost use Rattle.matching.specs.Matching.{cutter_of};
 ghost use Rattle.serving.specs.Serving.{suits_of, agents_in, serving_of};
@@ -20,7 +22,7 @@ mod waiting;
 pub type Suiting = [[bool; Sheet::AGENTS]; Sheet::AGENTS];
 
 // What one round settles: the agents served, their bundles at the same places, and the set of the agents that wait.
-#[derive(Drop)]
+#[derive(Clone, Copy)]
 pub struct Serving {
     pub served: Numbers,
     pub chosen: Numbers,

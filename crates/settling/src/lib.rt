@@ -1,4 +1,6 @@
 // One round of a division: who waits, who is served with what, and what is left.
+#![tactic(auto)]
+
 ghost use Rattle.std.specs.Prelude.{◌≡◌};
 ghost use Rattle.settling.specs.Settling.{settled_by};
 
@@ -17,7 +19,7 @@ mod suiting;
 
 // What one round settles: the agents served with the sets of their bundles at the same places, the set of the agents that wait, and the
 // set of the items left.
-#[derive(Drop)]
+#[derive(Clone, Copy)]
 pub struct Settled {
     pub served: Numbers,
     pub sets: Sets,

@@ -1,4 +1,6 @@
 // The program: a sheet on standard input, its division or one line such as `(refused 4)` on standard output.
+#![tactic(auto)]
+
 use libc::{STDIN_FILENO, STDOUT_FILENO};
 use sheet::Sheet;
 

@@ -1,4 +1,6 @@
 // The maximin share and the cut of each agent (yard) of a table, or the refusal of the table.
+#![tactic(auto)]
+
 ghost use Rattle.std.specs.Prelude.{◌≡◌, map, ◌≤◌};
 ghost use Rattle.sheet.specs.Limits.{greatest_sum, CountsWithin, InUse};
 ghost use Rattle.sheet.specs.Answers.{refused, accepted};
@@ -19,20 +21,20 @@ use sheet::valuing::value_of;
 use sheet::{Row, Sheet, Table, agents_allowed, items_allowed};
 
 // The cut of all items by one agent: the bundle of each item, 0 after the last.
-#[derive(Drop)]
+#[derive(Clone, Copy)]
 pub struct Cut {
     pub partition: Partition,
 }
 
 // The number of the reason why the table is refused, or that its agents have shares.
-#[derive(Drop)]
+#[derive(Clone, Copy)]
 pub enum Answer {
     Refused(u8),
     Shared,
 }
 
 // The answer, and each agent's share and cut; blank after the last agent, and where the table is refused.
-#[derive(Drop)]
+#[derive(Clone, Copy)]
 pub struct Outcome {
     pub answer: Answer,
     pub shares: Amounts,
@@ -40,7 +42,7 @@ pub struct Outcome {
 }
 
 // The share and the cut of one agent.
-#[derive(Drop)]
+#[derive(Clone, Copy)]
 struct OwnCut {
     share: u64,
     cut: Cut,

@@ -6,7 +6,7 @@ ghost use Rattle.sheet.specs.Listed.{numbered, appended};
 use crate::Sheet;
 
 // Numbers of items, agents or bundles, as many as a set can name at most; 0 after the last.
-#[derive(Drop)]
+#[derive(Clone, Copy)]
 pub struct Numbers {
     pub count: usize,
     pub numbers: [u8; Sheet::SET_BITS],

@@ -10,7 +10,7 @@ use crate::naming::items_of;
 use crate::{Mark, Row, Sheet};
 
 // The values of some items, as many as a set can name at most; 0 after the last.
-#[derive(Drop)]
+#[derive(Clone, Copy)]
 pub struct Values {
     pub count: usize,
     pub values: [u64; Sheet::SET_BITS],

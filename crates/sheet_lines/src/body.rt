@@ -12,7 +12,7 @@ use tokeniser::Cursor;
 
 // What the lines give: whether they stand as they should, whether all marks are allowed, what each yard's line gives, and the place after
 // the lines.
-#[derive(Drop)]
+#[derive(Clone, Copy)]
 pub struct Body {
     pub read: bool,
     pub allowed: bool,

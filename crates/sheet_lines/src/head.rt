@@ -10,7 +10,7 @@ use sheet::Sheet;
 use tokeniser::Cursor;
 
 // The counts of yards and pieces, and the place after the first line.
-#[derive(Drop)]
+#[derive(Clone, Copy)]
 pub enum Head {
     Counts(usize, usize, Cursor),
     Missed,

@@ -15,13 +15,13 @@ use tokeniser::Cursor;
 const MARK_VALUES: u64 = Sheet::GREATEST_MARK + 1;
 
 // What one yard's line gives: its valuation (row of marks).
-#[derive(Drop)]
+#[derive(Clone, Copy)]
 pub struct Yard {
     pub marks: Row,
 }
 
 // The marks of one line, those that are not allowed reduced, whether all of them are allowed, and the place after them.
-#[derive(Drop)]
+#[derive(Clone, Copy)]
 pub struct Line {
     pub read: bool,
     pub allowed: bool,

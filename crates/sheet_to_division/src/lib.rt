@@ -1,4 +1,6 @@
 // From a sheet to its division: the text of a sheet in, the text of its division out.
+#![tactic(auto)]
+
 ghost use Rattle.std.specs.Prelude.{◌≡◌, length};
 ghost use Rattle.sheet.specs.Answers.{after};
 ghost use Rattle.writing.specs.Answered.{answered};

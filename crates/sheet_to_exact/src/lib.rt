@@ -1,4 +1,6 @@
 // From a sheet to an exact division: the text of a sheet in, the text of an exact division of it, or none, out.
+#![tactic(auto)]
+
 ghost use Rattle.sheet_to_exact.specs.Showing.{Shown};
 
 use writing::Answer;

@@ -1,4 +1,6 @@
 // From a sheet with a division behind it to a judgement: the text of both in, the margins of the agents, or a refusal's number, out.
+#![tactic(auto)]
+
 ghost use Rattle.std.specs.Prelude.{◌≡◌, length};
 ghost use Rattle.sheet.specs.Contents.{contents};
 ghost use Rattle.sheet.specs.Answers.{after};

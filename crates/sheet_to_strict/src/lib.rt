@@ -1,4 +1,6 @@
 // From a text to the strict layout: the text of a sheet in, the strict text of that sheet out.
+#![tactic(auto)]
+
 ghost use Rattle.std.specs.Prelude.{◌≡◌, length};
 ghost use Rattle.sheet.specs.Answers.{after};
 ghost use Rattle.writing.specs.Answered.{answered};

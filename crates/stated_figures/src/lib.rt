@@ -1,4 +1,6 @@
 // Whether the worth, the share and the cut of each line are true, and the grade.
+#![tactic(auto)]
+
 ghost use Rattle.std.specs.Prelude.{◌≡◌, map, ◌≤◌, min, leb, take};
 ghost use Rattle.sheet.specs.Limits.{most_agents, most_items, InUse};
 ghost use Rattle.sheet.specs.Sets.{items_of};

@@ -1,4 +1,6 @@
 // Whether the items that a division names, in its bundles and in the cuts that it states, are those of the sheet, and each in just one bundle.
+#![tactic(auto)]
+
 ghost use Rattle.std.specs.Prelude.{◌≡◌, map, ◌≤◌, min, take};
 ghost use Rattle.sheet.specs.Limits.{most_agents, most_items};
 ghost use Rattle.sheet.specs.Sets.{items_of};
@@ -12,7 +14,7 @@ mod in_one;
 mod of_sheet;
 
 // A test of several bundles: they name items of the sheet only, or each item of it is in just one of them.
-#[derive(Drop)]
+#[derive(Clone, Copy)]
 pub enum Test {
     OfSheet,
     EachInOne,

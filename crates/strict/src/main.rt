@@ -1,4 +1,6 @@
 // The program: a sheet on standard input, its strict text or one line such as `(refused 6)` on standard output.
+#![tactic(auto)]
+
 use libc::{STDIN_FILENO, STDOUT_FILENO};
 use sheet::Sheet;
 

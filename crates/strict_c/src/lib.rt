@@ -1,4 +1,6 @@
 // From a text to the strict layout for callers in C or Rust, by C's calling convention.
+#![tactic(auto)]
+
 ghost use Rattle.std.specs.Prelude.{◌≡◌};
 ghost use Rattle.std.proofs.Math.ListN;
 ghost use Rattle.sheet.specs.Answers.{number_of, after};

@@ -1,4 +1,6 @@
 // Writing the strict text of a sheet into a lent buffer (document 01, "The sheet"). Its meaning stands in the specs of strict_text.
+#![tactic(auto)]
+
 ghost use Rattle.std.specs.Prelude.{◌≡◌, length};
 ghost use Rattle.sheet.specs.Answers.{after};
 ghost use Rattle.sheet.specs.Contents.{contents};

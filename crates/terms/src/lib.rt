@@ -1,4 +1,6 @@
 // The terms of a division: the part of its maximin share that each agent is promised.
+#![tactic(auto)]
+
 ghost use Rattle.std.specs.Prelude.{◌≡◌, min};
 ghost use Rattle.sheet.specs.Limits.{most_agents};
 ghost use Rattle.terms.specs.Terms.{terms_for};
@@ -6,7 +8,7 @@ ghost use Rattle.terms.specs.Terms.{terms_for};
 use sheet::{Sheet, lesser};
 
 // "top" and "bottom" of document 01: the fraction of its maximin share that each agent is promised.
-#[derive(Drop)]
+#[derive(Clone, Copy)]
 pub struct Terms {
     pub top: u64,
     pub bottom: u64,

@@ -1,4 +1,6 @@
 // The tokens of a text, one after another; spaces, remarks and blank lines count for nothing.
+#![tactic(auto)]
+
 ghost use Rattle.std.specs.Prelude.{◌≡◌};
 ghost use Rattle.tokens.specs.Tokens;
 ghost use Rattle.tokeniser.specs.Places;
@@ -11,14 +13,14 @@ mod bytes;
 mod scan;
 
 // A place in a text: the next byte to read, and whether its line has begun with a token.
-#[derive(Drop)]
+#[derive(Clone, Copy)]
 pub struct Cursor {
     pub at: usize,
     pub begun: bool,
 }
 
 // The bytes from `from` to `to`, and the place after them.
-#[derive(Drop)]
+#[derive(Clone, Copy)]
 pub struct Token {
     pub from: usize,
     pub to: usize,

@@ -1,5 +1,7 @@
 // The steps of a walk over the growth partitions: the bundles that are open to the next item, and what a search keeps of a partition that it
 // looks at and of a branch that it passes over.
+#![tactic(auto)]
+
 ghost use Rattle.std.specs.Prelude.{◌≡◌, ◌+◌, min, max};
 ghost use Rattle.sheet.specs.Limits.{most_agents, most_items, greatest_sum};
 ghost use Rattle.walk_steps.specs.Scan.{looking, passing};
@@ -13,14 +15,14 @@ use sheet::Sheet;
 pub type Partition = [u8; Sheet::ITEMS];
 
 // The first best partition so far, and the least bundle that a partition has to reach to take its place.
-#[derive(Drop)]
+#[derive(Clone, Copy)]
 pub struct Best {
     pub goal: u64,
     pub partition: Partition,
 }
 
 // A search that is under way: the best so far, and how many growth partitions it may still look at.
-#[derive(Drop)]
+#[derive(Clone, Copy)]
 pub struct Search {
     pub best: Best,
     pub allowance: u32,

@@ -1,4 +1,6 @@
 // The walk over the growth partitions, depth first and in dictionary order, that keeps the first best as far as its allowance goes.
+#![tactic(auto)]
+
 ghost use Rattle.std.specs.Prelude.{◌≡◌, ◌-◌, ◌≤◌, min, length};
 ghost use Rattle.sheet.specs.Limits.{most_agents, most_items};
 ghost use Rattle.lists.specs.Lists.{zeros};

@@ -1,11 +1,13 @@
 // A writer over a lent buffer: it fills the buffer from a place on, token by token. What finds no room is left out.
+#![tactic(auto)]
+
 ghost use Rattle.std.specs.Prelude.{◌≡◌};
 ghost use Rattle.text.specs.Decimal.{spaced_number};
 ghost use Rattle.writing.specs.Output.{output, Written};
 ghost use Rattle.writer.specs.WithText.{with_text};
 
 // A lent buffer, and the place of the byte that comes next.
-#[derive(Drop)]
+#[derive(Clone, Copy)]
 pub struct Writer<'a> {
     pub buffer: &'a mut [u8],
     pub at: usize,

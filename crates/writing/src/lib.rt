@@ -1,5 +1,7 @@
 // Writing into a lent buffer from a place on. Each function that writes returns the place of the byte that comes next; what finds no room
 // is left out.
+#![tactic(auto)]
+
 ghost use Rattle.std.specs.Prelude.{◌≡◌, [], ◌∷◌, ◌++◌, nat_abs, length};
 ghost use Rattle.text.specs.Decimal.{decimal, signed, spaced_number, spaced_numbers};
 ghost use Rattle.sheet.specs.Answers.{after};
@@ -9,7 +11,7 @@ ghost use Rattle.writing.specs.Filled.{filling, filled};
 ghost use Rattle.writing.specs.Output.{output, Written};
 
 // What an entry that fills a lent buffer answers: the number of the reason why nothing is written, or the length of the text.
-#[derive(Drop)]
+#[derive(Clone, Copy)]
 pub enum Answer {
     Refused(u8),
     Written(usize),
