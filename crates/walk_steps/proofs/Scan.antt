@@ -1,5 +1,5 @@
 -- Laws of `scan`: it goes through a list in parts, its goal only rises, and it ends at the first best. Assumes nothing.
-use mathlib.Core.Path.{◌≡◌, refl, ap, ◌∙◌}
+use mathlib.Core.Path.{sym, ◌≡◌, refl, ap, ◌∙◌}
 use mathlib.Core.Bool.{Bool, true, false}
 use mathlib.Core.Logic.{⊎_elim}
 use mathlib.Core.List.Memᴰ
@@ -83,7 +83,8 @@ module _ (v : List ℕ → ℕ) (h : List ℕ → List ℕ) where
   best-tail : (l : List ℕ) (ls : List (List ℕ)) → v l < greatest v ls → best_of ls ≡ best_of (l ∷ ls)
   best-tail l ls lt =
       let e : greatest v (l ∷ ls) ≡ greatest v ls = omega arith in
-      rw (e, ne_eqb (v l) (greatest v ls) (omega arith))
+      let of : ℕ → Best = λ g. record { goal = g + 1; partition = h (first_at v g ls) } in
+      rw (ne_eqb (v l) (greatest v (l ∷ ls)) (omega arith)) (ap of (sym e))
 
   scan_step : (b : Best) (l : List ℕ) (ls : List (List ℕ))
       → ((a : Best) → 0 < a.goal → a.goal ≤ greatest v ls → scan v h a ls ≡ best_of ls)
