@@ -1,3 +1,2 @@
 // Which agents (yards) wait, and which bundles (piles) the others are matched with.
 #![tactic(auto)]
-

@@ -1,3 +1,2 @@
 // The maximin share and the partition (cut) that shows it: definitions and laws, no code.
 #![tactic(auto)]
-

@@ -21,14 +21,13 @@ next_row-row-requires c =
     subst NextFits (sym c.loop-laid.invariant.1) (next_fits (most (goal.at.next_row-row-requires c).At-loop-laid) c.loop-laid.laid (omega arith) (omega (arith, c.lesser-last.ensures)))
 
 pub loop-laid-preserved : goal.loop-laid-preserved
-loop-laid-preserved c =
-    (
-      omega arith,
-      c.next_row-row.ensures
-          ∙ ap next_row c.loop-laid.invariant.1
-          ∙ next_row-count_row (most (goal.at.loop-laid-preserved c).At-loop-laid) c.loop-laid.laid (omega arith)
-          ∙ ap (count_row (most (goal.at.loop-laid-preserved c).At-loop-laid)) (sym (add-one c.loop-laid.laid)),
-    )
+loop-laid-preserved c = (
+  omega arith,
+  c.next_row-row.ensures
+      ∙ ap next_row c.loop-laid.invariant.1
+      ∙ next_row-count_row (most (goal.at.loop-laid-preserved c).At-loop-laid) c.loop-laid.laid (omega arith)
+      ∙ ap (count_row (most (goal.at.loop-laid-preserved c).At-loop-laid)) (sym (add-one c.loop-laid.laid)),
+)
 
 pub returns : goal.returns
 returns c =

@@ -24,7 +24,7 @@ loop-i-preserved c =
     let read = nth-next 0 a.loads.now i in (
       omega arith,
       elim c.if-load-goal.branch [
-        then-load-goal+else-lacks_more w ↦ next (rw read (sym (rw w.supplied.ensures at w.lacks_more.ensures) ∙ w.if-lacks_more.false))
-      | else-load-goal w ↦ next (is_short_at-reached a.goal (load_of a.loads.now) a.bundles a.values.now (i + 1) (rw read w.if-load-goal.false))
+        | then-load-goal+else-lacks_more w ↦ next (rw read (sym (rw w.supplied.ensures at w.lacks_more.ensures) ∙ w.if-lacks_more.false))
+        | else-load-goal w ↦ next (is_short_at-reached a.goal (load_of a.loads.now) a.bundles a.values.now (i + 1) (rw read w.if-load-goal.false))
       ],
     )

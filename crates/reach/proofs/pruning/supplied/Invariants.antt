@@ -8,7 +8,7 @@ use Rattle.reach.specs.Pruning.{supply, counted_supply}
 use Rattle.reach.proofs.pruning.supplied.Given as goal
 
 abbrev pub invariant-loop-i : goal.invariant-loop-i
-invariant-loop-i l =     (l.i ≤ l.last) × (l.sum ≤ (greatest_sum + 1) * l.i) × (l.sum + supply l.threshold (drop l.i (take most_items l.values)) ≡ counted_supply l.most l.values)
+invariant-loop-i l = (l.i ≤ l.last) × (l.sum ≤ (greatest_sum + 1) * l.i) × (l.sum + supply l.threshold (drop l.i (take most_items l.values)) ≡ counted_supply l.most l.values)
 
 abbrev pub decreases-loop-i : goal.decreases-loop-i
 decreases-loop-i l = l.last - l.i
