@@ -1,0 +1,26 @@
+use mathlib.Core.Path.{◌≡◌, sym, ap₂, ◌∙◌}
+use mathlib.Core.List.{List}
+use Prim.Native.Nat.{ℕ, ◌+◌}
+use native.Mathlib.Omega.{arith}
+use lib.IntN.{ℤ, pos}
+use mir.Syntax.{w64}
+use mir.ValLaws.{to_z-of_z}
+use Rattle.lists.specs.Lists.{nth}
+use Rattle.lists.proofs.places.Padding.{padded-range}
+use Rattle.lists.proofs.places.Places.{nth-next}
+use Rattle.sheet.specs.Limits.{most_agents}
+use Rattle.terms.specs.declared.Terms.{Terms}
+use Rattle.margins.specs.Margins.{limited_margin}
+use Rattle.margins.proofs.margins_of.Goals as goal
+
+-- the margin of agent k
+abbrev margin_at : Terms → List ℕ → List ℕ → ℕ → ℤ
+margin_at terms worths shares k = limited_margin terms (nth 0 worths k) (nth 0 shares k)
+
+pub loop-i-preserved : goal.loop-i-preserved
+loop-i-preserved c =
+    let a = c.args in
+    let l = c.loop-i in
+    let read : c.margin_of-margin.result ≡ margin_at a.terms a.worths a.shares (l.i + 1) =
+    c.margin_of-margin.ensures ∙ ap₂ (limited_margin a.terms) (sym (nth-next 0 a.worths l.i)) (sym (nth-next 0 a.shares l.i)) in
+    (omega arith, rw (to_z-of_z w64 c.margin_of-margin.result (record { sfits = c.margin_of-margin.type_inv }), l.invariant.1) (padded-range most_agents (pos 0) (margin_at a.terms a.worths a.shares) l.i c.margin_of-margin.result (omega arith) read))

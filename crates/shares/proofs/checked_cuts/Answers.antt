@@ -1,0 +1,42 @@
+use mathlib.Core.Path.{◌≡◌, sym, ap, ◌∙◌}
+use mathlib.Core.Bool.{Bool}
+use mathlib.Core.List.{map}
+use Rattle.sheet.specs.Answers.{accepted, require}
+use Rattle.sheet.specs.Tables.{profile}
+use Rattle.sheet.specs.Contents.{sheet_of}
+use Rattle.sheet.proofs.Limits.{counts-allowed}
+use Rattle.cut.specs.Outcome.{cutting_of}
+use Rattle.shares.specs.Shares.{sharing}
+use Rattle.shares.specs.Outcome.{outcome}
+use Rattle.shares.proofs.Refusals.{sharing-counts-within}
+use Rattle.shares.proofs.EachAgent.{outcome-each}
+use Rattle.shares.proofs.checked_cuts.Goals as goal
+use Rattle.shares.proofs.checked_cuts.Goals.{After-shares_covered}
+
+-- the answer by the test of refusal 9
+tested : (c : After-shares_covered) (b : Bool) → c.shares_covered.result ≡ b
+    → let a = c.args in
+    sharing (sheet_of a.agents a.items a.table) ≡ require 9 b (accepted (map (cutting_of a.agents) (profile a.agents a.items a.table)))
+tested c b e =
+    let a = c.args in
+    let allowed = counts-allowed a.agents a.items c.requires.0 in
+    sharing-counts-within (sheet_of a.agents a.items a.table) allowed.0 allowed.1
+    ∙ ap (λ t. require 9 t (accepted (map (cutting_of a.agents) (profile a.agents a.items a.table)))) (sym c.shares_covered.ensures ∙ e)
+
+pub shares_covered-requires : goal.shares_covered-requires
+shares_covered-requires c =
+    let a = c.args in
+    record {
+      counts = c.requires.0;
+      each = ap (λ o. o.shares) (c.own_cuts-own.ensures.0 ∙ outcome-each a.agents a.items a.table);
+      small = c.own_cuts-own.ensures.1;
+    }
+
+pub returns-then-not-shares_covered : goal.returns-then-not-shares_covered
+returns-then-not-shares_covered c =
+    (c.refuse.ensures.0 ∙ ap outcome (sym (tested (goal.at.returns-then-not-shares_covered c).After-shares_covered _ (c.if-not-shares_covered.true))), c.refuse.ensures.1)
+
+pub returns : goal.returns
+returns c =
+    let own = c.own_cuts-own in
+    (own.ensures.0 ∙ ap outcome (sym (tested (goal.at.returns c).After-shares_covered _ (c.if-not-shares_covered.false))), own.ensures.1)

@@ -1,0 +1,62 @@
+use mathlib.Core.Path.{◌≡◌, sym, ap, ap₂, ◌∙◌}
+use mathlib.Core.Bool.{true}
+use Prim.Native.Nat.{◌≤◌, ◌<◌, min}
+use native.Mathlib.Omega.{arith}
+use Rattle.sheet.specs.Limits.{most_agents, most_items, agents_allowed, items_allowed, CountsWithin}
+use Rattle.sheet.specs.Contents.{contents}
+use Rattle.sheet.proofs.Limits.{counts-within}
+use Rattle.growth.specs.Growth.{growths}
+use Rattle.shares.specs.Outcome.{outcome}
+use Rattle.shares.proofs.Refusals.{sharing-agents-outside, sharing-items-outside}
+use Rattle.shares.proofs.Allowance.{sharing_within-refused, sharing_within-enough, sharing_within-short}
+use Rattle.shares.proofs.share_each_within.Goals as goal
+use Rattle.shares.proofs.share_each_within.Goals.{After-count, Else-allowance-count, Else-not-agents_allowed, Else-not-items_allowed}
+
+-- both counts are allowed
+agents_within : (c : Else-not-agents_allowed) → agents_allowed c.args.sheet.agents ≡ true
+agents_within c = sym c.agents_allowed.ensures ∙ c.if-not-agents_allowed.false
+
+items_within : (c : Else-not-items_allowed) → items_allowed c.args.sheet.items ≡ true
+items_within c = sym c.items_allowed.ensures ∙ c.if-not-items_allowed.false
+
+within-limits : (c : Else-not-items_allowed) → let sheet = c.args.sheet in CountsWithin sheet.agents sheet.items
+within-limits c = let sheet = c.args.sheet in counts-within sheet.agents sheet.items (agents_within c.before.before) (items_within c)
+
+-- the number that the allowance is held against
+counted : (c : After-count) → let sheet = c.args.sheet in c.count.result ≡ growths sheet.agents sheet.items
+counted c =
+    let sheet = c.args.sheet in
+    let w = within-limits c.before in
+    let agents : min sheet.agents most_agents ≡ sheet.agents = omega (arith, w.few) in
+    let items : min sheet.items most_items ≡ sheet.items = omega (arith, w.few_items) in
+    c.count.ensures ∙ ap₂ growths agents items
+
+-- the allowance is enough
+enough : (c : Else-allowance-count) → let a = c.args in growths a.sheet.agents a.sheet.items ≤ a.allowance
+enough c = omega (arith, counted c.before, c.if-allowance-count.false)
+
+pub returns-then-not-agents_allowed : goal.returns-then-not-agents_allowed
+returns-then-not-agents_allowed c =
+    let a = c.args in
+    let outside = sym c.agents_allowed.ensures ∙ c.if-not-agents_allowed.true in
+    let refused-4 = sharing_within-refused (contents a.sheet a.table) a.allowance 4 (sharing-agents-outside (contents a.sheet a.table) outside) in
+    (c.refuse.ensures.0 ∙ ap outcome (sym refused-4), c.refuse.ensures.1)
+
+pub returns-then-not-items_allowed : goal.returns-then-not-items_allowed
+returns-then-not-items_allowed c =
+    let a = c.args in
+    let outside = sym c.items_allowed.ensures ∙ c.if-not-items_allowed.true in
+    let refused-5 = sharing_within-refused (contents a.sheet a.table) a.allowance 5 (sharing-items-outside (contents a.sheet a.table) (agents_within (goal.at.returns-then-not-items_allowed c).Else-not-agents_allowed) outside) in
+    (c.refuse-then-not-items_allowed.ensures.0 ∙ ap outcome (sym refused-5), c.refuse-then-not-items_allowed.ensures.1)
+
+pub returns-then-allowance-count : goal.returns-then-allowance-count
+returns-then-allowance-count c =
+    let a = c.args in
+    let short : a.allowance < growths a.sheet.agents a.sheet.items = omega (arith, counted (goal.at.returns-then-allowance-count c).After-count, c.if-allowance-count.true) in
+    let refused-14 = sharing_within-short (contents a.sheet a.table) a.allowance (within-limits (goal.at.returns-then-allowance-count c).Else-not-items_allowed) short in
+    (c.refuse-then-allowance-count.ensures.0 ∙ ap outcome (sym refused-14), c.refuse-then-allowance-count.ensures.1)
+
+pub returns : goal.returns
+returns c =
+    let a = c.args in
+    (c.checked_cuts.ensures.0 ∙ ap outcome (sym (sharing_within-enough (contents a.sheet a.table) a.allowance (enough (goal.at.returns c).Else-allowance-count))), c.checked_cuts.ensures.1)
