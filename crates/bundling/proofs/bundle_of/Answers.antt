@@ -28,14 +28,17 @@ loop-i-preserved c =
     let laid : l.i < length a.partition = omega (arith, limit) in
     let so_far = bundle (take l.i ks) a.partition a.number in
     let room : length so_far < set_bits = omega (arith, length-sublist (items_in-sublist (eqb a.number) (take l.i ks) a.partition), length-take l.i ks, length-items a.set) in
-    elim c.if-number-partition.branch [ then-number-partition w ↦ (
-      omega arith,
-      w.found-is
-          ∙ w.append-found.ensures
-          ∙ ap₂ appended l.invariant.1 (number_at ks items.ensures l.i (omega (arith, limit)))
-          ∙ appended-numbered so_far (get_or ks l.i 0) room
-          ∙ ap numbered (sym (bundle-taken a.number ks a.partition l.i more laid w.if-number-partition.true)),
-    ) | else-number-partition w ↦ (omega arith, w.found-is ∙ l.invariant.1 ∙ ap numbered (sym (bundle-left a.number ks a.partition l.i more laid w.if-number-partition.false))) ]
+    elim c.if-number-partition.branch [
+      | then-number-partition w ↦ (
+        omega arith,
+        w.found-is
+            ∙ w.append-found.ensures
+            ∙ ap₂ appended l.invariant.1 (number_at ks items.ensures l.i (omega (arith, limit)))
+            ∙ appended-numbered so_far (get_or ks l.i 0) room
+            ∙ ap numbered (sym (bundle-taken a.number ks a.partition l.i more laid w.if-number-partition.true)),
+      )
+      | else-number-partition w ↦ (omega arith, w.found-is ∙ l.invariant.1 ∙ ap numbered (sym (bundle-left a.number ks a.partition l.i more laid w.if-number-partition.false)))
+    ]
 
 pub returns : goal.returns
 returns c =

@@ -115,23 +115,23 @@ loop-bundle-preserved t c =
       omega arith,
       elim c.if-is_wasted.branch [ then-is_wasted w ↦ w.loaded-is ∙ same-loads | else-is_wasted w ↦ w.loaded-is ∙ store-back loaded bundle (get_or loaded bundle 0 + next values) 0 ∙ same-loads ],
       λ d. elim c.if-is_wasted.branch [
-        then-is_wasted w ↦ ap (λ places. set places a.at d) w.longer-is ∙ same-places d
-      | else-is_wasted w ↦ ap (λ places. set places a.at d) w.longer-is ∙ set-set longer a.at (bundle + 1) d ∙ same-places d
+        | then-is_wasted w ↦ ap (λ places. set places a.at d) w.longer-is ∙ same-places d
+        | else-is_wasted w ↦ ap (λ places. set places a.at d) w.longer-is ∙ set-set longer a.at (bundle + 1) d ∙ same-places d
       ],
       elim c.if-is_wasted.branch [
-          then-is_wasted w ↦
-          let wasted = wasted-bounds found.best.goal (get_or loaded bundle 0) bundle a.used (sym c.is_wasted.ensures ∙ w.if-is_wasted.true) in
-          w.found-is
-          ∙ w.pass-found.ensures
-          ∙ ap (λ used. passing (count_at a.counts.now (min (length rest) most_items) (min used most_agents)) found) opened
-          ∙ ap (λ count. passing count found) (counted a.counts.now a.bundles (length values) (length rest) (max a.used (bundle + 1)) c.requires.1 (omega (arith, r.few)) r.few_bundles few in_use)
-          ∙ ap (passing (length (growth_from a.bundles (max a.used (bundle + 1)) (length rest)))) tried
-          ∙ sym (walked_up_to-wasted a.bundles a.at a.used a.loads.now a.partition.now a.ceiling a.search (next values) rest bundle wasted.0 wasted.1 r.opened
-          (omega (arith, wasted.2, nth-next 0 a.loads.now bundle, ap (λ loads. get_or loads bundle 0) same-loads, ap (λ f. f.best.goal) tried)))
+        | then-is_wasted w ↦
+            let wasted = wasted-bounds found.best.goal (get_or loaded bundle 0) bundle a.used (sym c.is_wasted.ensures ∙ w.if-is_wasted.true) in
+            w.found-is
+            ∙ w.pass-found.ensures
+            ∙ ap (λ used. passing (count_at a.counts.now (min (length rest) most_items) (min used most_agents)) found) opened
+            ∙ ap (λ count. passing count found) (counted a.counts.now a.bundles (length values) (length rest) (max a.used (bundle + 1)) c.requires.1 (omega (arith, r.few)) r.few_bundles few in_use)
+            ∙ ap (passing (length (growth_from a.bundles (max a.used (bundle + 1)) (length rest)))) tried
+            ∙ sym (walked_up_to-wasted a.bundles a.at a.used a.loads.now a.partition.now a.ceiling a.search (next values) rest bundle wasted.0 wasted.1 r.opened
+            (omega (arith, wasted.2, nth-next 0 a.loads.now bundle, ap (λ loads. get_or loads bundle 0) same-loads, ap (λ f. f.best.goal) tried)))
         | else-is_wasted w ↦ w.found-is
-          ∙ rw (opened, tried) at w.walk-found.ensures
-          ∙ ap₂ (λ loads places. walked rest a.bundles (a.at + 1) (max a.used (bundle + 1)) (set loads bundle (get_or loads bundle 0 + next values)) places a.ceiling (up_to bundle)) same-loads (same-places (bundle + 1))
-          ∙ sym (walked_up_to-next a.bundles a.at a.used a.loads.now a.partition.now a.ceiling a.search (next values) rest bundle (omega (arith, c.requires.0.few_bundles, c.requires.0.places)))
+            ∙ rw (opened, tried) at w.walk-found.ensures
+            ∙ ap₂ (λ loads places. walked rest a.bundles (a.at + 1) (max a.used (bundle + 1)) (set loads bundle (get_or loads bundle 0 + next values)) places a.ceiling (up_to bundle)) same-loads (same-places (bundle + 1))
+            ∙ sym (walked_up_to-next a.bundles a.at a.used a.loads.now a.partition.now a.ceiling a.search (next values) rest bundle (omega (arith, c.requires.0.few_bundles, c.requires.0.places)))
       ],
     )
 

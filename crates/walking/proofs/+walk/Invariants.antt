@@ -11,7 +11,7 @@ abbrev pub decreases-walk : goal.decreases-walk
 decreases-walk l = length l.values.now
 
 abbrev pub invariant-loop-bundle : goal.invariant-loop-bundle
-invariant-loop-bundle l =     (l.bundle ≤ l.limit) × (l.loaded ≡ l.loads) × ((c : ℕ) → set l.longer l.at c ≡ set l.partition l.at c) × (l.found ≡ walked_up_to l.bundles l.at l.used l.loads l.partition l.ceiling l.initial.found l.value l.rest l.bundle)
+invariant-loop-bundle l = (l.bundle ≤ l.limit) × (l.loaded ≡ l.loads) × ((c : ℕ) → set l.longer l.at c ≡ set l.partition l.at c) × (l.found ≡ walked_up_to l.bundles l.at l.used l.loads l.partition l.ceiling l.initial.found l.value l.rest l.bundle)
 
 abbrev pub decreases-loop-bundle : goal.decreases-loop-bundle
 decreases-loop-bundle l = l.limit - l.bundle

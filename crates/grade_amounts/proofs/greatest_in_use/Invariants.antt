@@ -1,0 +1,21 @@
+-- The loop's invariant: the greatest value of the first i bundles is found.
+use mathlib.Core.Path.{◌≡◌}
+use mathlib.Core.List.{List, [], map}
+use Prim.Native.Nat.{ℕ, ◌-◌, ◌≤◌, min}
+use Rattle.lists.specs.Lists.{nth}
+use Rattle.lists.specs.Sums.{greatest_of}
+use Rattle.sheet.specs.Limits.{most_items}
+use Rattle.sheet.specs.Sets.{items_of}
+use Rattle.sheet.specs.Valuations.{value}
+use Rattle.sheet.specs.Tables.{all_values}
+use Rattle.grade_amounts.proofs.greatest_in_use.Given as goal
+
+-- the value of bundle j
+abbrev seen : List ℕ → ℕ → List ℕ → ℕ → ℕ
+seen valuation items bundles j = value (all_values (min items most_items) valuation) (nth [] (map items_of bundles) j)
+
+abbrev pub invariant-loop-i : goal.invariant-loop-i
+invariant-loop-i l = (l.i ≤ l.agents) × (l.most ≡ greatest_of (seen l.valuation l.items l.bundles) l.i)
+
+abbrev pub decreases-loop-i : goal.decreases-loop-i
+decreases-loop-i l = l.agents - l.i
