@@ -50,11 +50,14 @@ module _ (suits : ℕ → ℕ → Bool) (bundles : ℕ) where
   pub largest_tight-new : (chosen best : List ℕ) → length best < length chosen → is_tight chosen ≡ true → largest_tight suits [] bundles chosen best ≡ chosen
   unfolding largest_tight
   largest_tight-new chosen best lt passes =
-      rw (append-nil chosen, passes) (first_best-better length best chosen [] lt ∙ first_best-one length chosen)
+      let only : filter is_tight (begun chosen (sublists [])) ≡ chosen ∷ [] = rw (append-nil chosen, passes) in
+      ap (λ ls. first_best length (best ∷ ls)) only ∙ first_best-better length best chosen [] lt ∙ first_best-one length chosen
 
   pub largest_tight-old : (chosen best : List ℕ) → is_tight chosen ≡ false → largest_tight suits [] bundles chosen best ≡ best
   unfolding largest_tight
-  largest_tight-old chosen best fails = rw (append-nil chosen, fails) (first_best-one length best)
+  largest_tight-old chosen best fails =
+      let none : filter is_tight (begun chosen (sublists [])) ≡ [] = rw (append-nil chosen, fails) in
+      ap (λ ls. first_best length (best ∷ ls)) none ∙ first_best-one length best
 
   -- the sets with the next agent, and then those without
   pub largest_tight-next : (agent : ℕ) (rest chosen best : List ℕ)

@@ -1,11 +1,10 @@
 use mathlib.Core.Path.{◌≡◌, sym, ap, ◌∙◌}
 use mathlib.Core.Bool.{Bool, not}
 use mathlib.Core.List.{List}
-use Prim.Native.Nat.{ℕ, ◌-◌, ◌<◌}
+use Prim.Native.Nat.{ℕ, ◌<◌}
 use native.Mathlib.Omega.{arith}
 use lib.ListN.{length, get_or, take, length-take}
 use lib.Seq.{take-length}
-use borrow.Author.Tests.{not-true, not-false}
 use Rattle.lists.specs.Lists.{elem}
 use Rattle.lists.proofs.places.Passing.{take_next}
 use Rattle.lists.proofs.ranges.Ranges.{range-bounds, within-mem}
@@ -39,7 +38,7 @@ loop-i-preserved c =
     let read = number_at agents is.same l.i (omega arith) in
     let tested = ap waits (sym read) ∙ sym found.ensures in (
       omega arith,
-      rw (take_next agents l.i (omega (arith, count-listed agents is.same))) (elim c.if-not-contains.branch [ then-not-contains w ↦ w.2 ∙ w.1.ensures ∙ ap (appended l.left) read ∙ kept_more waits before l.left l.invariant.1 agent few (tested ∙ not-true found.result w.0.taken) | else-not-contains w ↦ w.1 ∙ kept_same waits before l.left l.invariant.1 agent (tested ∙ not-false found.result w.0.left) ]),
+      rw (take_next agents l.i (omega (arith, count-listed agents is.same))) (elim c.if-not-contains.branch [ then-not-contains w ↦ w.left-is ∙ w.append-left.ensures ∙ ap (appended l.left) read ∙ kept_more waits before l.left l.invariant.1 agent few (tested ∙ w.if-not-contains.true) | else-not-contains w ↦ w.left-is ∙ kept_same waits before l.left l.invariant.1 agent (tested ∙ w.if-not-contains.false) ]),
     )
 
 pub returns : goal.returns

@@ -1,7 +1,6 @@
 use mathlib.Core.Path.{sym, ◌∙◌}
-use Prim.Native.Nat.{◌+◌, ◌-◌}
+use Prim.Native.Nat.{◌+◌}
 use native.Mathlib.Omega.{arith}
-use borrow.Author.Tests.{not-true, not-false}
 use Rattle.lists.specs.Lists.{range}
 use Rattle.lists.proofs.ranges.Ranges.{length-range}
 use Rattle.lists.proofs.places.Passing.{range-next}
@@ -19,5 +18,5 @@ loop-i-preserved c =
     let found = c.is_wanted in
     let want = wanted (suits_of a.suiting) (listed a.waiting) in (
       omega arith,
-      rw (range-next l.i) (elim c.if-not-is_wanted.branch [ then-not-is_wanted w ↦ w.2 ∙ w.1.ensures ∙ kept_more want (range 1 l.i) l.left l.invariant.1 (l.i + 1) (omega (arith, length-range 1 l.i)) (sym found.ensures ∙ not-true found.result w.0.taken) | else-not-is_wanted w ↦ w.1 ∙ kept_same want (range 1 l.i) l.left l.invariant.1 (l.i + 1) (sym found.ensures ∙ not-false found.result w.0.left) ]),
+      rw (range-next l.i) (elim c.if-not-is_wanted.branch [ then-not-is_wanted w ↦ w.left-is ∙ w.append-left.ensures ∙ kept_more want (range 1 l.i) l.left l.invariant.1 (l.i + 1) (omega (arith, length-range 1 l.i)) (sym found.ensures ∙ w.if-not-is_wanted.true) | else-not-is_wanted w ↦ w.left-is ∙ kept_same want (range 1 l.i) l.left l.invariant.1 (l.i + 1) (sym found.ensures ∙ w.if-not-is_wanted.false) ]),
     )

@@ -1,4 +1,3 @@
-use Prim.Native.Nat.{◌-◌}
 use native.Mathlib.Omega.{arith}
 use Rattle.serving.proofs.Listing.{place-within}
 use Rattle.serving.proofs.suiting.is_wanted.Goals as goal

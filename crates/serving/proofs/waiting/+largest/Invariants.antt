@@ -1,5 +1,4 @@
 -- The proof of the cycle of calls {largest}. The measure is the number of agents still to be tried.
-use Prim.Native.Nat.{◌-◌}
 use lib.ListN.{length}
 use Rattle.serving.proofs.waiting.+largest.Given as goal
 
