@@ -19,7 +19,7 @@ use Rattle.rounds.proofs.density.Deficit.{deficit, deficit-le-total}
 use Rattle.rounds.proofs.density.Partition.{PartitionByItems, empty, place, partition_by_items-length, partition_by_items-within, within-partition_by_items}
 use Rattle.rounds.proofs.density.Regroup.{bundle_values, length-bundle_values, refines-bundle_values, total-bundle_values-le}
 use Rattle.terms.specs.Allowed.{AtMostStandard}
-use Rattle.rounds.proofs.density.Terms.{top, bottom, Reaches, reaches-mono, reaches-terms, supply-terms}
+use Rattle.rounds.proofs.density.Terms.{bottom, Reaches, reaches-mono, reaches-terms, supply-terms}
 use Rattle.rounds.proofs.density.Splitting.{Splits, splits-refine}
 use Rattle.rounds.proofs.density.Core.{Supplied, splits-supplied}
 
