@@ -18,7 +18,7 @@ unfolding inside
 same_line c = ap (λ p. p.begun) c.inside-here.ensures
 
 starts-before-end : (c : Else-from-s) → let a = c.args in token_start a.s.now a.c < length a.s.now
-starts-before-end c = let a = c.args in omega (arith, starts (at.After-token_start-from c), start-within a.s.now a.c)
+starts-before-end c = let a = c.args in omega (arith, start-from-inside a.s.now a.c c.inside-here.ensures c.token_start-from.ensures, start-within a.s.now a.c)
 
 pub token_start-from-requires : goal.token_start-from-requires
 token_start-from-requires c = rw c.inside-here.ensures (inside-text _ _)
