@@ -18,10 +18,12 @@ loop-i-preserved c =
     let halves = ap (λ k. k / 2) l.invariant.1 ∙ halved set l.i in
     let parity = ap (λ k. k % 2) l.invariant.1 in
     let room : length (items_up_to set l.i) < set_bits = omega (arith, length-items_up_to set l.i) in
-    elim c.if-rest-eq1.branch [ then-rest-eq1 w ↦ 
-    (omega arith, halves, w.found-is ∙ w.append-found.ensures ∙ ap (λ n. appended n (l.i + 1)) l.invariant.2 ∙ appended-numbered (items_up_to set l.i) (l.i + 1) room ∙ ap numbered (sym (items_up_to-taken set l.i (sym parity ∙ w.if-rest-eq1.true))))
-    | else-rest-eq1 w ↦
-    (omega arith, halves, w.found-is ∙ l.invariant.2 ∙ ap numbered (sym (items_up_to-left set l.i (λ e. w.if-rest-eq1.false (parity ∙ e))))) ]
+    elim c.if-rest-eq1.branch [
+      | then-rest-eq1 w ↦
+          (omega arith, halves, w.found-is ∙ w.append-found.ensures ∙ ap (λ n. appended n (l.i + 1)) l.invariant.2 ∙ appended-numbered (items_up_to set l.i) (l.i + 1) room ∙ ap numbered (sym (items_up_to-taken set l.i (sym parity ∙ w.if-rest-eq1.true))))
+      | else-rest-eq1 w ↦
+          (omega arith, halves, w.found-is ∙ l.invariant.2 ∙ ap numbered (sym (items_up_to-left set l.i (λ e. w.if-rest-eq1.false (parity ∙ e)))))
+    ]
 
 pub returns : goal.returns
 unfolding items_of
