@@ -7,7 +7,7 @@ use Rattle.numerals.specs.Numerals.{all_digits, digits_after}
 use Rattle.numerals.proofs.digits_value.Given as goal
 
 abbrev pub invariant-loop-i : goal.invariant-loop-i
-invariant-loop-i l =     (l.i ≤ length l.w) × (l.n < 10 ^ l.i) × (all_digits (drop l.i l.w) ≡ true) × (digits_after 0 l.w ≡ digits_after l.n (drop l.i l.w))
+invariant-loop-i l = (l.i ≤ length l.w) × (l.n < 10 ^ l.i) × (all_digits (drop l.i l.w) ≡ true) × (digits_after 0 l.w ≡ digits_after l.n (drop l.i l.w))
 
 abbrev pub decreases-loop-i : goal.decreases-loop-i
 decreases-loop-i l = length l.w - l.i

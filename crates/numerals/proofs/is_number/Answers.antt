@@ -4,7 +4,7 @@ use Prim.Native.Nat.{min}
 use native.Mathlib.Omega.{arith}
 use lib.Dec.{leb}
 use lib.ListN.{length}
-use borrow.Author.Tests.{lt-leb, le-leb, not-true, not-false}
+use borrow.Author.Tests.{lt-leb, le-leb}
 use Rattle.numerals.specs.Numerals.{longest_number, is_number}
 use Rattle.numerals.proofs.Digits.{nonempty}
 use Rattle.numerals.proofs.is_number.Goals as goal
