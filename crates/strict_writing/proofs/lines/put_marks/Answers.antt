@@ -4,7 +4,6 @@ use Rattle.text.specs.Decimal.{spaced_numbers}
 use Rattle.text.proofs.Spaced.{spaced_numbers-next}
 use Rattle.writing.proofs.Written.{nothing, ◌then◌}
 use Rattle.strict_writing.proofs.lines.put_marks.Goals as goal
-use Rattle.strict_writing.proofs.lines.put_marks.Goals.{Start}
 
 pub loop-i-init : goal.loop-i-init
 unfolding spaced_numbers

@@ -4,7 +4,6 @@ use Rattle.writing.proofs.Written.{nothing, ◌then◌}
 use Rattle.strict_text.specs.StrictText.{yard_texts}
 use Rattle.strict_text.proofs.RowsInUse.{yard_texts-next}
 use Rattle.strict_writing.proofs.lines.put_yards.Goals as goal
-use Rattle.strict_writing.proofs.lines.put_yards.Goals.{Start}
 
 pub loop-i-init : goal.loop-i-init
 unfolding yard_texts
