@@ -4,10 +4,10 @@
 ghost use Rattle.std.specs.Prelude.{◌≡◌};
 ghost use Rattle.text.specs.Decimal.{spaced_number};
 ghost use Rattle.writing.specs.Output.{output, Written};
-ghost use Rattle.writer.specs.WithText.{with_text};
+ghost use Rattle.writer.specs.WithText.{output_of, with_text};
 
 // A lent buffer, and the place of the byte that comes next.
-#[derive(Clone, Copy)]
+#[derive(Drop)]
 pub struct Writer<'a> {
     pub buffer: &'a mut [u8],
     pub at: usize,
@@ -54,11 +54,27 @@ pub fn number<'a>(w: Writer<'a>, n: u64) -> Writer<'a>
     }
 }
 
+// A writer from a place on, once a word is written.
+fn worded<'a, 'b>(buffer: &'a mut [u8], at: usize, text: &'b [u8]) -> Writer<'a>
+    ensures same_reference { result.buffer.ghost_name ≡ buffer.entry.ghost_name }
+    ensures written { Written (output buffer.old at) text.now (output_of result) }
+{
+    word(new(buffer, at), text)
+}
+
+// A writer from a place on, once a number is written.
+fn numbered<'a>(buffer: &'a mut [u8], at: usize, n: u64) -> Writer<'a>
+    ensures same_reference { result.buffer.ghost_name ≡ buffer.entry.ghost_name }
+    ensures written { Written (output buffer.old at) (spaced_number n) (output_of result) }
+{
+    number(new(buffer, at), n)
+}
+
 // A word by a writer of its own: callers hold no writer.
 pub fn write_word<'a, 'b>(buffer: &'a mut [u8], at: usize, text: &'b [u8]) -> usize
     ensures { Written (output buffer.old at) text.now (output buffer.new result) }
 {
-    let w = word(new(buffer, at), text);
+    let w = worded(buffer, at, text);
     place(w)
 }
 
@@ -66,6 +82,6 @@ pub fn write_word<'a, 'b>(buffer: &'a mut [u8], at: usize, text: &'b [u8]) -> us
 pub fn write_number(buffer: &mut [u8], at: usize, n: u64) -> usize
     ensures { Written (output buffer.old at) (spaced_number n) (output buffer.new result) }
 {
-    let w = number(new(buffer, at), n);
+    let w = numbered(buffer, at, n);
     place(w)
 }

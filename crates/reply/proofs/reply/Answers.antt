@@ -1,0 +1,5 @@
+use Rattle.reply.proofs.Replied.{written-front}
+use Rattle.reply.proofs.reply.Goals as goal
+
+pub returns-in-Refused-clause-within : goal.returns-in-Refused-clause-within
+returns-in-Refused-clause-within c = written-front c.put_refusal.ensures

@@ -1,0 +1,11 @@
+use native.Mathlib.Omega.{arith}
+use Rattle.sheet.specs.Contents.{contents}
+use Rattle.writing.proofs.Filled.{written-whole}
+use Rattle.strict_writing.proofs.Longest.{length-of-any}
+use Rattle.strict_writing.proofs.sheet_length.Goals as goal
+
+pub returns : goal.returns
+returns c =
+    let a = c.args in
+    let short = length-of-any (contents a.sheet a.table) _ (omega arith) (omega arith) c.well_formed.0 in
+    (written-whole c.put_sheet.ensures short).reached

@@ -1,0 +1,13 @@
+-- The loop's invariant: the first i numbers are written.
+use mathlib.Core.Path.{◌≡◌}
+use Prim.Native.Nat.{◌-◌, ◌≤◌}
+use lib.ListN.{length, take}
+use Rattle.text.specs.Decimal.{spaced_numbers}
+use Rattle.writing.specs.Output.{output, Written}
+use Rattle.writing.proofs.put_spaced.Given as goal
+
+abbrev pub invariant-loop-i : goal.invariant-loop-i
+invariant-loop-i l = (l.i ≤ length l.numbers) × (length l.buffer ≡ length l.initial.buffer) × Written (output l.initial.buffer l.at) (spaced_numbers (take l.i l.numbers)) (output l.buffer l.next)
+
+abbrev pub decreases-loop-i : goal.decreases-loop-i
+decreases-loop-i l = length l.numbers - l.i
