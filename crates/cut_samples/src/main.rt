@@ -3,8 +3,8 @@
 #![tactic(auto)]
 
 use cut::{Answer, Partition};
-use libc::STDOUT_FILENO;
 use sheet::{Mark, Row, Sheet};
+use std::io;
 
 // An allowance that no cut exceeds.
 const ENOUGH: u32 = growth::MOST;
@@ -12,126 +12,135 @@ const ENOUGH: u32 = growth::MOST;
 // All items.
 const ALL: u16 = Sheet::SETS - 1;
 
-fn main() {
-    sample_g([1, 2, 3, 4, 5, 6, 7, 0, 0, 0, 0, 0]);
-    sample_h([2, 2, 2, 2, 0, 0, 0, 0, 0, 0, 0, 0]);
-    five_items([3, 3, 2, 2, 2, 0, 0, 0, 0, 0, 0, 0]);
-    greatest([Sheet::GREATEST_MARK as Mark; Sheet::ITEMS]);
-    first_player([
-        1017003, 1024999, 1011999, 1000999, 1002000, 1022000, 1003000, 1028000, 1011000, 1000000,
-        1021000, 1023000,
-    ]);
+fn main(rt: HostRuntime) -> io::Result<()> {
+    sample_g(&rt, [1, 2, 3, 4, 5, 6, 7, 0, 0, 0, 0, 0])?;
+    sample_h(&rt, [2, 2, 2, 2, 0, 0, 0, 0, 0, 0, 0, 0])?;
+    five_items(&rt, [3, 3, 2, 2, 2, 0, 0, 0, 0, 0, 0, 0])?;
+    greatest(&rt, [Sheet::GREATEST_MARK as Mark; Sheet::ITEMS])?;
+    first_player(
+        &rt,
+        [
+            1017003, 1024999, 1011999, 1000999, 1002000, 1022000, 1003000, 1028000, 1011000,
+            1000000, 1021000, 1023000,
+        ],
+    )
 }
 
 // Sample g of document 01, which has 365 growth partitions; a set with gaps.
-fn sample_g(row: Row) {
-    show_row(row);
-    show(row, 127, 3, ENOUGH);
-    show(row, 85, 2, ENOUGH);
-    allowances(row);
-    refusals(row);
+fn sample_g(rt: &impl Print, row: Row) -> io::Result<()> {
+    show_row(rt, row)?;
+    show(rt, row, 127, 3, ENOUGH)?;
+    show(rt, row, 85, 2, ENOUGH)?;
+    allowances(rt, row)?;
+    refusals(rt, row)
 }
 
 // Allowances up to beyond the growth partitions of sample g.
-fn allowances(row: Row) {
-    show(row, 127, 3, 1);
-    show(row, 127, 3, 10);
-    show(row, 127, 3, 100);
-    show(row, 127, 3, 364);
-    show(row, 127, 3, 365);
-    show(row, 127, 3, 4294967295);
+fn allowances(rt: &impl Print, row: Row) -> io::Result<()> {
+    show(rt, row, 127, 3, 1)?;
+    show(rt, row, 127, 3, 10)?;
+    show(rt, row, 127, 3, 100)?;
+    show(rt, row, 127, 3, 364)?;
+    show(rt, row, 127, 3, 365)?;
+    show(rt, row, 127, 3, 4294967295)
 }
 
 // No bundle, seven bundles, an item above the last, both, and no allowance.
-fn refusals(row: Row) {
-    show(row, 127, 0, 0);
-    show(row, 127, 7, 0);
-    show(row, 4096, 6, 0);
-    show(row, 65535, 1, ENOUGH);
-    show(row, 65535, 255, ENOUGH);
-    show(row, 127, 3, 0);
+fn refusals(rt: &impl Print, row: Row) -> io::Result<()> {
+    show(rt, row, 127, 0, 0)?;
+    show(rt, row, 127, 7, 0)?;
+    show(rt, row, 4096, 6, 0)?;
+    show(rt, row, 65535, 1, ENOUGH)?;
+    show(rt, row, 65535, 255, ENOUGH)?;
+    show(rt, row, 127, 3, 0)
 }
 
 // Sample h of document 01.
-fn sample_h(row: Row) {
-    show_row(row);
-    show(row, 15, 2, ENOUGH);
+fn sample_h(rt: &impl Print, row: Row) -> io::Result<()> {
+    show_row(rt, row)?;
+    show(rt, row, 15, 2, ENOUGH)
 }
 
 // The row on which "heaviest piece to the lightest pile" gives 5; no item, and one.
-fn five_items(row: Row) {
-    show_row(row);
-    show(row, 31, 2, ENOUGH);
-    show(row, 0, 2, ENOUGH);
-    show(row, 4, 6, ENOUGH);
+fn five_items(rt: &impl Print, row: Row) -> io::Result<()> {
+    show_row(rt, row)?;
+    show(rt, row, 31, 2, ENOUGH)?;
+    show(rt, row, 0, 2, ENOUGH)?;
+    show(rt, row, 4, 6, ENOUGH)
 }
 
 // Twelve items at the greatest mark.
-fn greatest(row: Row) {
-    show_row(row);
-    show(row, ALL, 1, ENOUGH);
-    show(row, ALL, 5, ENOUGH);
-    show(row, ALL, 6, ENOUGH);
+fn greatest(rt: &impl Print, row: Row) -> io::Result<()> {
+    show_row(rt, row)?;
+    show(rt, row, ALL, 1, ENOUGH)?;
+    show(rt, row, ALL, 5, ENOUGH)?;
+    show(rt, row, ALL, 6, ENOUGH)
 }
 
 // The first player of document 000, section 2.
-fn first_player(row: Row) {
-    show_row(row);
-    show(row, ALL, 3, ENOUGH);
+fn first_player(rt: &impl Print, row: Row) -> io::Result<()> {
+    show_row(rt, row)?;
+    show(rt, row, ALL, 3, ENOUGH)
 }
 
-fn print(text: &[u8]) {
-    io::write_all(STDOUT_FILENO, text);
+fn print(rt: &impl Print, text: &[u8]) -> io::Result<()> {
+    rt.write_all(text)
 }
 
 // A text and a number behind it.
-fn print_field(text: &[u8], n: u64) {
-    print(text);
-    io::print_decimal(STDOUT_FILENO, n);
+fn print_field(rt: &impl Print, text: &[u8], n: u64) -> io::Result<()> {
+    print(rt, text)?;
+    rt.print(n)
 }
 
-fn print_mark(mark: Mark) {
-    print_field(b" ", mark as u64);
+fn print_mark(rt: &impl Print, mark: Mark) -> io::Result<()> {
+    print_field(rt, b" ", mark as u64)
 }
 
-fn print_place(bundle: u8) {
-    print_field(b" ", bundle as u64);
+fn print_place(rt: &impl Print, bundle: u8) -> io::Result<()> {
+    print_field(rt, b" ", bundle as u64)
 }
 
 // The marks of a row.
-fn show_row(row: Row) {
-    print(b"marks");
+fn show_row(rt: &impl Print, row: Row) -> io::Result<()> {
+    print(rt, b"marks")?;
     let mut i: usize = 0;
     while i < Sheet::ITEMS {
-        print_mark(row[i]);
+        print_mark(rt, row[i])?;
         i += 1;
     }
-    print(b"\n");
+    print(rt, b"\n")
 }
 
-fn show(valuation: Row, set: u16, bundles: usize, allowance: u32) {
-    print_field(b"set ", set as u64);
-    print_field(b" into ", bundles as u64);
-    print_field(b", allowed ", allowance as u64);
+fn show(
+    rt: &impl Print,
+    valuation: Row,
+    set: u16,
+    bundles: usize,
+    allowance: u32,
+) -> io::Result<()> {
+    print_field(rt, b"set ", set as u64)?;
+    print_field(rt, b" into ", bundles as u64)?;
+    print_field(rt, b", allowed ", allowance as u64)?;
     let outcome = cut::cut(valuation, set, bundles, allowance);
     let answer = outcome.answer;
     let partition = outcome.partition;
     match answer {
-        Answer::Refused(number) => print_field(b": refused ", number as u64),
-        Answer::Share(share) => print_field(b": share ", share),
-        Answer::Stopped(least) => print_field(b": stopped ", least),
+        Answer::Refused(number) => print_field(rt, b": refused ", number as u64)?,
+        Answer::Share(share) => print_field(rt, b": share ", share)?,
+        Answer::Stopped(least) => print_field(rt, b": stopped ", least)?,
     }
-    print_field(b", looked at ", outcome.count as u64);
-    show_partition(partition);
+    print_field(rt, b", looked at ", outcome.count as u64)?;
+    show_partition(rt, partition)
 }
 
 // The places of a partition, those not in use too.
-fn show_partition(partition: Partition) {
-    print(b", layout");
+fn show_partition(rt: &impl Print, partition: Partition) -> io::Result<()> {
+    print(rt, b", layout")?;
     let mut i: usize = 0;
     while i < Sheet::ITEMS {
-        print_place(partition[i]);
+        print_place(rt, partition[i])?;
         i += 1;
     }
-    print(b"\n");
+    print(rt, b"\n")
 }

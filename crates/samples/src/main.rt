@@ -2,10 +2,12 @@
 // `strict`, `exact` and `judge` print for its text, and what they print where the buffer is one byte shorter than the text that they write.
 #![tactic(auto)]
 
-use libc::STDOUT_FILENO;
 use printing::LONGEST;
 use reply::reply;
 use sheet::{Sheet, lesser};
+use std::fs::{File, Files};
+use std::io::Read;
+use std::{env, io};
 use writing::Answer;
 
 // Room for a text that is seen to be too long.
@@ -20,75 +22,67 @@ enum Program {
     Judge,
 }
 
-fn main() {
-    let count = os::arg_count();
-    let mut file = 1;
-    while file < count {
-        show_file(file);
-        file += 1;
+fn main(rt: HostRuntime) -> io::Result<()> {
+    for path in env::args(&rt)?.skip(1) {
+        show_file(&rt, path.as_str())?;
     }
+    Ok(())
 }
 
-// The file that an argument names.
-fn show_file(argument: usize) {
-    let mut path = io::buffer();
-    let length = os::arg(argument, &mut path);
-    let file = os::open_read(&path[..length]);
-    if file < 0 {
-        os::fail(&path[..length]);
-        return;
+// The file of this name; where it cannot be opened, why, on standard error.
+fn show_file(rt: &(impl Files + Print + Eprint), path: &str) -> io::Result<()> {
+    match File::open(rt, path) {
+        Ok(mut file) => {
+            println!(rt; "{path}")?;
+            show_content(rt, &mut file)
+        }
+        Err(error) => eprintln!(rt; "{path}: {error}"),
     }
-    print(&path[..length]);
-    print(b"\n");
-    show_content(file);
-    libc::close(file);
 }
 
 // The text of a file, up to one byte more than the longest text.
-fn show_content(file: i32) {
+fn show_content(rt: &impl Print, file: &mut impl Read) -> io::Result<()> {
     let mut text = [0u8; ROOM];
-    let got = io::read_full(file, &mut text);
-    show_answers(&text[..got]);
+    let got = input::read_full(file, &mut text)?;
+    show_answers(rt, &text[..got])
 }
 
 // What each program prints for a text, behind the program's name.
-fn show_answers(text: &[u8]) {
-    print(b"shareout: ");
-    show(Program::Shareout, text);
-    print(b"strict: ");
-    show(Program::Strict, text);
-    print(b"exact: ");
-    show(Program::Exact, text);
-    print(b"judge: ");
-    show(Program::Judge, text);
+fn show_answers(rt: &impl Print, text: &[u8]) -> io::Result<()> {
+    print(rt, b"shareout: ")?;
+    show(rt, Program::Shareout, text)?;
+    print(rt, b"strict: ")?;
+    show(rt, Program::Strict, text)?;
+    print(rt, b"exact: ")?;
+    show(rt, Program::Exact, text)?;
+    print(rt, b"judge: ")?;
+    show(rt, Program::Judge, text)
 }
 
 // What a program prints for a text.
-fn show(program: Program, text: &[u8]) {
+fn show(rt: &impl Print, program: Program, text: &[u8]) -> io::Result<()> {
     let mut buffer = [0u8; LONGEST];
     let answer = answer_of(program, text, &mut buffer);
     let length = reply(answer, &mut buffer);
-    print(&buffer[..length]);
+    print(rt, &buffer[..length])?;
     match answer {
-        Answer::Refused(_) => {}
-        Answer::Written(written) => show_shorter(program, text, written),
+        Answer::Refused(_) => Ok(()),
+        Answer::Written(written) => show_shorter(rt, program, text, written),
     }
 }
 
 // What a program prints where its buffer is one byte shorter than the text that it writes.
-fn show_shorter(program: Program, text: &[u8], written: usize) {
+fn show_shorter(rt: &impl Print, program: Program, text: &[u8], written: usize) -> io::Result<()> {
     if written == 0 {
-        return;
+        return Ok(());
     }
     let shorter = lesser(written - 1, LONGEST);
-    print(b"in ");
-    io::print_decimal(STDOUT_FILENO, shorter as u64);
-    print(b" bytes: ");
+    print!(rt; "in {shorter} bytes: ")?;
     let mut buffer = [0u8; LONGEST];
     let answer = answer_of(program, text, &mut buffer[..shorter]);
     let mut line = [0u8; LONGEST];
     let length = reply(answer, &mut line);
-    print(&line[..length]);
+    print(rt, &line[..length])
 }
 
 // What the entry of a program answers.
@@ -101,6 +95,6 @@ fn answer_of(program: Program, text: &[u8], buffer: &mut [u8]) -> Answer {
     }
 }
 
-fn print(bytes: &[u8]) {
-    io::write_all(STDOUT_FILENO, bytes);
+fn print(rt: &impl Print, bytes: &[u8]) -> io::Result<()> {
+    rt.write_all(bytes)
 }
