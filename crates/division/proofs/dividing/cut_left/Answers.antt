@@ -1,0 +1,43 @@
+use mathlib.Core.Path.{◌≡◌, sym, ap, ap₂, ◌∙◌}
+use mathlib.Core.List.{[], map}
+use Prim.Native.Nat.{◌-◌, ◌≤◌}
+use native.Mathlib.Omega.{arith}
+use lib.ListN.{length, get_or, length-map}
+use Rattle.lists.proofs.ranges.Ranges.{range-bounds}
+use Rattle.lists.proofs.members.Counting.{sublist-mem}
+use Rattle.lists.proofs.ranges.RangeSublists.{range-sublist-few}
+use Rattle.sheet.specs.Limits.{most_agents}
+use Rattle.sheet.specs.Sets.{items_of}
+use Rattle.sheet.specs.Valuations.{item_value, values_of}
+use Rattle.growth.specs.Growth.{growths}
+use Rattle.maximin.specs.Share.{maximin_partition}
+use Rattle.cut.specs.Outcome.{outcome as cut_outcome, placed}
+use Rattle.cut.proofs.Allowance.{cutting-shared}
+use Rattle.serving.specs.Serving.{agents_in}
+use Rattle.serving.proofs.round.AgentsLeft.{agents_in-sublist, agents_in-items}
+use Rattle.division.proofs.dividing.cut_left.Goals as goal
+use Rattle.division.proofs.dividing.cut_left.Goals.{Start}
+
+-- the cutter is an agent of a sheet
+cutter-within : (s : Start) → (1 ≤ s.args.cutter) × (s.args.cutter ≤ most_agents)
+cutter-within s =
+    let (low, high) = range-bounds 1 most_agents (sublist-mem (agents_in-sublist s.args.left) s.requires.0) in
+    (low, omega arith)
+
+pub overflow_sub-valuation : goal.overflow_sub-valuation
+overflow_sub-valuation c = (cutter-within (goal.at.overflow_sub-valuation c).Start).0
+
+pub bounds-table-cutter : goal.bounds-table-cutter
+bounds-table-cutter c = omega (arith, cutter-within (goal.at.bounds-table-cutter c).Start)
+
+pub returns : goal.returns
+unfolding values_of
+returns c =
+    let a = c.args in
+    let same = agents_in-items a.left c.requires.1.small_left in
+    let n = c.items_of-agents.result.count in
+    let count : n ≡ length (agents_in a.left) = ap (λ k. k.count) c.items_of-agents.ensures ∙ ap length (sym same) in
+    let row = get_or a.table (a.cutter - 1) [] in
+    let enough : growths n (length (values_of row a.set)) ≤ a.allowance = omega (arith, ap₂ growths count (length-map (items_of a.set) (item_value row)), c.requires.2) in
+    ap (λ o. o.partition) (c.cut-cutting.ensures ∙ ap cut_outcome (cutting-shared row a.set n a.allowance (omega (arith, c.requires.1.some_left)) (omega (arith, range-sublist-few most_agents (agents_in-sublist a.left))) c.requires.1.small_set enough))
+    ∙ ap (λ k. placed (maximin_partition k (map (item_value row) (items_of a.set)))) count
