@@ -1,0 +1,12 @@
+use Rattle.writing.proofs.Written.{◌then◌}
+use Rattle.sheet.specs.Sets.{items_of}
+use Rattle.sheet.proofs.listing.Listed.{listed-is}
+use Rattle.printed_lines.specs.PrintedLines.{pile_group}
+use Rattle.printed_lines.proofs.put_pile.Goals as goal
+
+pub returns : goal.returns
+unfolding pile_group
+returns c =
+    let listed = listed-is (items_of c.args.pile) c.items_of-bundle.ensures in
+    let numbers-put = rw listed at c.put_spaced-listed.ensures in
+    c.put_bytes-opened.ensures then numbers-put then c.put.ensures
