@@ -1,0 +1,8 @@
+use Rattle.writing.proofs.Written.{◌then◌}
+use Rattle.sheet_to_judgement.specs.internal.MarginsText.{margins_text}
+use Rattle.sheet_to_judgement.proofs.accepted.put_accepted.Goals as goal
+
+pub returns : goal.returns
+unfolding margins_text
+returns c =
+    c.put_bytes-opened.ensures then c.put_margins-listed.ensures then c.put_bytes.ensures
