@@ -11,7 +11,8 @@ import os
 import re
 import sys
 
-# Names that would fall together with another one: the field or constructor gives way, and the definition has the plain name.
+# Names that would fall together with another one: the field or constructor gives way, and the definition has the plain name. The last
+# has a letter that stands for itself.
 GIVEN = {
     "isRead": "is_read",
     "is_read": "read_is",
@@ -27,6 +28,7 @@ GIVEN = {
     "no-line-feed": "without_line_feed",
     "length-stored": "stored_length",
     "is-part": "part_is",
+    "sheetCAndDivision": "sheet_c_and_division",
 }
 
 WORD = re.compile(r"[A-Za-z_\u00c0-\u024f\u2080-\u2089\u0370-\u03ff\u2115\u2124\u1d30][A-Za-z0-9_'\u00c0-\u024f\u2080-\u2089\u0370-\u03ff\u2115\u2124\u1d30-]*")

@@ -28,7 +28,7 @@ use Rattle.stated_truth.specs.Truth.{bundles_and_cuts, of_sheet, each_in_one, li
 use Rattle.stated_truth.specs.Judging.{judging_by, judging}
 use Rattle.sheet_to_judgement.specs.AcceptedText.{accepted_text, longest_accepted}
 use Rattle.sheet_to_judgement.specs.TextJudged.{text_judged, judgement_from}
-use Rattle.sheet_to_judgement.specs.SampleTexts.{division_c, sheet_cAnd_division}
+use Rattle.sheet_to_judgement.specs.SampleTexts.{division_c, sheet_c_and_division}
 
 -- what the sheet carries, and what the division states
 abbrev contents_c : Contents
@@ -51,7 +51,7 @@ stated_c =
 abbrev margins_c : List ℤ
 margins_c = pos 10 ∷ pos 0 ∷ pos 2 ∷ []
 
-sheet-c-read : reading_front sheet_cAnd_division ≡ accepted (contents_c, tokens division_c)
+sheet-c-read : reading_front sheet_c_and_division ≡ accepted (contents_c, tokens division_c)
 unfolding reading_front contents_of sheet.end_line sheet.body sheet.yard_line sheet.yard_turn sheet.head numbers.number_after numbers.number numbers.digits_after numbers.is_number forms.in_turn forms.follow on_first lines before_remark extended words line_tokens tokens flat_map
 sheet-c-read = refl
 
@@ -63,10 +63,10 @@ division-c-judged : judging contents_c (some stated_c) ≡ accepted margins_c
 unfolding judging_by sharing shares_covered bundles_and_cuts of_sheet each_in_one figures_true line_true grade envy_free proportional maximin_fair profile maximin_share maximin_partition terms_for largest_odd margin
 division-c-judged = refl
 
-sheet-c-judged : text_judged sheet_cAnd_division ≡ accepted margins_c
+sheet-c-judged : text_judged sheet_c_and_division ≡ accepted margins_c
 unfolding text_judged
 sheet-c-judged = rw (sheet-c-read, division-c-read) division-c-judged
 
-pub sheet-c : judgement_from sheet_cAnd_division longest_accepted ≡ accepted (bytes "(accepted (margins 10 0 2))\n")
+pub sheet-c : judgement_from sheet_c_and_division longest_accepted ≡ accepted (bytes "(accepted (margins 10 0 2))\n")
 unfolding judgement_from accepted_text signed digits_in decimal flat_map
 sheet-c = rw sheet-c-judged

@@ -14,5 +14,5 @@ division_c =
     ++ bytes "(yard 3 (pile 4) (worth 1) (share 1) (cut (1 2) (3) (4)))\n"
     ++ bytes "(end)\n"
 
-abbrev pub sheet_cAnd_division : List ℕ
-sheet_cAnd_division = sheet_c ++ division_c
+abbrev pub sheet_c_and_division : List ℕ
+sheet_c_and_division = sheet_c ++ division_c
