@@ -31,7 +31,7 @@ GIVEN = {
     "sheetCAndDivision": "sheet_c_and_division",
 }
 
-WORD = re.compile(r"[A-Za-z_\u00c0-\u024f\u2080-\u2089\u0370-\u03ff\u2115\u2124\u1d30][A-Za-z0-9_'\u00c0-\u024f\u2080-\u2089\u0370-\u03ff\u2115\u2124\u1d30-]*")
+WORD = re.compile(r"(?<![0-9A-Za-z_])[A-Za-z_\u00c0-\u024f\u2080-\u2089\u0370-\u03ff\u2115\u2124\u1d30][A-Za-z0-9_'\u00c0-\u024f\u2080-\u2089\u0370-\u03ff\u2115\u2124\u1d30-]*")
 DECLARED = re.compile(r"^\s*(?:abbrev|unfoldable)\s+(?:pub\s+)?(\S+) :")
 TYPE = re.compile(r"^(\s*)(?:pub\s+)?(record|data) .*where\s*$")
 FIELD = re.compile(r"^(\s*)(?:pub\s+)?(\S+) :")
