@@ -1,21 +1,17 @@
 use mathlib.Core.Path.{◌≡◌, sym, ap, ap₂, subst, ◌∙◌}
-use mathlib.Core.List.{List, map}
 use Prim.Native.Nat.{ℕ, ◌+◌, ◌-◌, ◌≤◌, min}
 use native.Mathlib.Numerals.{add-one}
 use native.Mathlib.Omega.{arith}
 use lib.ListN.{set}
-use Rattle.lists.specs.Lists.{range, zeros, padded}
+use Rattle.lists.specs.Lists.{zeros}
 use Rattle.lists.proofs.places.Padding.{padded-range}
 use Rattle.sheet.specs.Limits.{most_agents, most_items}
 use Rattle.growth.specs.Counts.{used_places, count_row, count_table}
 use Rattle.growth.specs.internal.Rows.{next_row, NextFits}
 use Rattle.growth.proofs.Table.{next_fits, next_row-count_row}
+use Rattle.growth.proofs.counts_for.Invariants.{filled_to}
 use Rattle.growth.proofs.counts_for.Goals as goal
 use Rattle.growth.proofs.counts_for.Goals.{At-loop-left}
-
--- the table with the first rows filled
-abbrev filled_to : ℕ → ℕ → List (List ℕ)
-filled_to n rows = padded (most_items + 1) (zeros used_places) (map (λ c. count_row n (c - 1)) (range 1 rows))
 
 -- one row more
 filled_to-next : (n rows : ℕ) → rows ≤ most_items → set (filled_to n rows) rows (count_row n rows) ≡ filled_to n (rows + 1)

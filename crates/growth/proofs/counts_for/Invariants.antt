@@ -8,7 +8,7 @@ use Rattle.growth.specs.Counts.{used_places, count_row}
 use Rattle.growth.proofs.counts_for.Given as goal
 
 -- the table with the first rows filled
-abbrev filled_to : ℕ → ℕ → List (List ℕ)
+abbrev pub filled_to : ℕ → ℕ → List (List ℕ)
 filled_to n rows = padded (most_items + 1) (zeros used_places) (map (λ c. count_row n (c - 1)) (range 1 rows))
 
 abbrev pub invariant-loop-left : goal.invariant-loop-left

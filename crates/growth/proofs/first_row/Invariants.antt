@@ -7,7 +7,7 @@ use Rattle.growth.specs.Counts.{growth_count, used_places}
 use Rattle.growth.proofs.first_row.Given as goal
 
 -- the row with the places below `used` filled
-abbrev filled_to : ℕ → ℕ → List ℕ
+abbrev pub filled_to : ℕ → ℕ → List ℕ
 filled_to n used = padded used_places 0 (map (λ c. growth_count n (c - 1) 0) (range 1 used))
 
 abbrev pub invariant-loop-used : goal.invariant-loop-used

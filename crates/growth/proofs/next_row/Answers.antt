@@ -1,18 +1,13 @@
 use mathlib.Core.Path.{◌≡◌, ap, ◌∙◌}
-use mathlib.Core.List.{List, map}
-use Prim.Native.Nat.{ℕ, ◌+◌, ◌-◌}
+use Prim.Native.Nat.{◌+◌, ◌-◌}
 use native.Mathlib.Omega.{arith}
 use lib.ListN.{set}
-use Rattle.lists.specs.Lists.{range, padded}
 use Rattle.lists.proofs.places.Padding.{padded-range}
 use Rattle.sheet.specs.Limits.{most_agents}
 use Rattle.growth.specs.Counts.{used_places}
 use Rattle.growth.specs.internal.Rows.{one_more, next_row}
+use Rattle.growth.proofs.next_row.Invariants.{filled_to}
 use Rattle.growth.proofs.next_row.Goals as goal
-
--- the next row with the places below `used` filled
-abbrev filled_to : List ℕ → ℕ → List ℕ
-filled_to row used = padded used_places 0 (map (λ c. one_more row (c - 1)) (range 1 used))
 
 pub loop-used-preserved : goal.loop-used-preserved
 loop-used-preserved c =

@@ -9,7 +9,7 @@ use Rattle.growth.specs.internal.Rows.{one_more}
 use Rattle.growth.proofs.next_row.Given as goal
 
 -- the next row with the places below `used` filled
-abbrev filled_to : List ℕ → ℕ → List ℕ
+abbrev pub filled_to : List ℕ → ℕ → List ℕ
 filled_to row used = padded used_places 0 (map (λ c. one_more row (c - 1)) (range 1 used))
 
 abbrev pub invariant-loop-used : goal.invariant-loop-used

@@ -1,6 +1,5 @@
 use mathlib.Core.Path.{◌≡◌, sym, ap, ◌∙◌}
-use mathlib.Core.List.{List, map, map-map}
-use Prim.Native.Nat.{ℕ}
+use mathlib.Core.List.{map, map-map}
 use native.Mathlib.Omega.{arith}
 use lib.ListN.{length}
 use Rattle.lists.specs.Lists.{range, nth}
@@ -8,13 +7,9 @@ use Rattle.lists.proofs.ranges.Ranges.{map-nth-range}
 use Rattle.lists.proofs.places.Places.{nth-next}
 use Rattle.lists.proofs.places.Filling.{fill-next, fill-all}
 use Rattle.sheet.specs.Limits.{most_agents}
-use Rattle.division_reading.specs.declared.StatedLine.{StatedLine}
 use Rattle.stated_truth.specs.Lines.{no_line}
+use Rattle.judging.proofs.bundles_of.Invariants.{bundle_at}
 use Rattle.judging.proofs.bundles_of.Goals as goal
-
--- the bundle of line k
-abbrev bundle_at : List StatedLine → ℕ → ℕ
-bundle_at lines k = (nth no_line lines k).bundle
 
 pub loop-i-preserved : goal.loop-i-preserved
 loop-i-preserved c =

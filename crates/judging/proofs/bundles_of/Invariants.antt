@@ -9,7 +9,7 @@ use Rattle.stated_truth.specs.Lines.{no_line}
 use Rattle.judging.proofs.bundles_of.Given as goal
 
 -- the bundle of line k
-abbrev bundle_at : List StatedLine → ℕ → ℕ
+abbrev pub bundle_at : List StatedLine → ℕ → ℕ
 bundle_at lines k = (nth no_line lines k).bundle
 
 abbrev pub invariant-loop-i : goal.invariant-loop-i

@@ -1,21 +1,15 @@
 use mathlib.Core.Path.{◌≡◌, sym, ap₂, ◌∙◌}
-use mathlib.Core.List.{List}
-use Prim.Native.Nat.{ℕ, ◌+◌}
+use Prim.Native.Nat.{◌+◌}
 use native.Mathlib.Omega.{arith}
-use lib.IntN.{ℤ, pos}
+use lib.IntN.{pos}
 use mir.Syntax.{w64}
 use mir.ValLaws.{to_z-of_z}
-use Rattle.lists.specs.Lists.{nth}
 use Rattle.lists.proofs.places.Padding.{padded-range}
 use Rattle.lists.proofs.places.Places.{nth-next}
 use Rattle.sheet.specs.Limits.{most_agents}
-use Rattle.terms.specs.declared.Terms.{Terms}
 use Rattle.margins.specs.Margins.{limited_margin}
+use Rattle.margins.proofs.margins_of.Invariants.{margin_at}
 use Rattle.margins.proofs.margins_of.Goals as goal
-
--- the margin of agent k
-abbrev margin_at : Terms → List ℕ → List ℕ → ℕ → ℤ
-margin_at terms worths shares k = limited_margin terms (nth 0 worths k) (nth 0 shares k)
 
 pub loop-i-preserved : goal.loop-i-preserved
 loop-i-preserved c =

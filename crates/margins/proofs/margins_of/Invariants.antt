@@ -10,7 +10,7 @@ use Rattle.margins.specs.Margins.{limited_margin}
 use Rattle.margins.proofs.margins_of.Given as goal
 
 -- the margin of agent k
-abbrev margin_at : Terms → List ℕ → List ℕ → ℕ → ℤ
+abbrev pub margin_at : Terms → List ℕ → List ℕ → ℕ → ℤ
 margin_at terms worths shares k = limited_margin terms (nth 0 worths k) (nth 0 shares k)
 
 abbrev pub invariant-loop-i : goal.invariant-loop-i

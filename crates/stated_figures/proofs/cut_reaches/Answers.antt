@@ -1,6 +1,5 @@
 use mathlib.Core.Path.{◌≡◌, sym, ap, ap₂, ◌∙◌}
-use mathlib.Core.Bool.{Bool}
-use mathlib.Core.List.{List, [], map}
+use mathlib.Core.List.{[], map}
 use Prim.Native.Nat.{ℕ, ◌+◌, min}
 use native.Mathlib.Omega.{arith}
 use lib.Dec.{leb}
@@ -15,12 +14,9 @@ use Rattle.sheet.specs.Sets.{items_of}
 use Rattle.sheet.specs.Valuations.{value}
 use Rattle.sheet.specs.Tables.{all_values}
 use Rattle.sheet.proofs.sets.Bundles.{nth-items}
+use Rattle.stated_figures.proofs.cut_reaches.Invariants.{reaches}
 use Rattle.stated_figures.proofs.cut_reaches.Goals as goal
 use Rattle.stated_figures.proofs.cut_reaches.Goals.{After-value_in_use}
-
--- whether bundle c of the first n of a cut is worth the share
-abbrev reaches : List ℕ → ℕ → ℕ → List ℕ → ℕ → ℕ → Bool
-reaches valuation n m cut share c = leb share (value (all_values m valuation) (nth [] (map items_of (take n cut)) c))
 
 -- the value of the next bundle
 told : (c : After-value_in_use)

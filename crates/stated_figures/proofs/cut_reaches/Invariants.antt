@@ -12,7 +12,7 @@ use Rattle.sheet.specs.Tables.{all_values}
 use Rattle.stated_figures.proofs.cut_reaches.Given as goal
 
 -- whether bundle c of the first n of a cut is worth the share
-abbrev reaches : List ℕ → ℕ → ℕ → List ℕ → ℕ → ℕ → Bool
+abbrev pub reaches : List ℕ → ℕ → ℕ → List ℕ → ℕ → ℕ → Bool
 reaches valuation n m cut share c = leb share (value (all_values m valuation) (nth [] (map items_of (take n cut)) c))
 
 abbrev pub invariant-loop-i : goal.invariant-loop-i

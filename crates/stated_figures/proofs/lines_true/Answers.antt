@@ -1,20 +1,13 @@
 use mathlib.Core.Path.{◌≡◌, sym, ◌∙◌}
-use mathlib.Core.Bool.{Bool}
-use mathlib.Core.List.{List, []}
-use Prim.Native.Nat.{ℕ, ◌+◌}
+use mathlib.Core.List.{[]}
+use Prim.Native.Nat.{◌+◌}
 use native.Mathlib.Omega.{arith}
-use Rattle.lists.specs.Lists.{nth}
 use Rattle.lists.proofs.places.Places.{nth-next}
 use Rattle.lists.proofs.members.Tests.{all-next, all-fails}
-use Rattle.sheet.specs.Tables.{valuation_of}
-use Rattle.division_reading.specs.declared.StatedLine.{StatedLine}
-use Rattle.stated_truth.specs.Lines.{no_line, stated_line, line_true_to}
+use Rattle.stated_truth.specs.Lines.{no_line}
+use Rattle.stated_figures.proofs.lines_true.Invariants.{true_at}
 use Rattle.stated_figures.proofs.lines_true.Goals as goal
 use Rattle.stated_figures.proofs.lines_true.Goals.{After-line_true}
-
--- whether line k is true
-abbrev true_at : ℕ → ℕ → List (List ℕ) → List ℕ → List ℕ → List StatedLine → ℕ → Bool
-true_at n m table shares worths lines k = line_true_to n m (valuation_of table k) (nth 0 shares k) (nth 0 worths k) (stated_line n (nth no_line lines k))
 
 -- the next line is tried
 tested : (c : After-line_true)

@@ -10,7 +10,7 @@ use Rattle.stated_truth.specs.Lines.{no_line, stated_line, line_true_to}
 use Rattle.stated_figures.proofs.lines_true.Given as goal
 
 -- whether line k is true
-abbrev true_at : ℕ → ℕ → List (List ℕ) → List ℕ → List ℕ → List StatedLine → ℕ → Bool
+abbrev pub true_at : ℕ → ℕ → List (List ℕ) → List ℕ → List ℕ → List StatedLine → ℕ → Bool
 true_at n m table shares worths lines k = line_true_to n m (valuation_of table k) (nth 0 shares k) (nth 0 worths k) (stated_line n (nth no_line lines k))
 
 abbrev pub invariant-loop-i : goal.invariant-loop-i

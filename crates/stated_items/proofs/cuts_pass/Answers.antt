@@ -1,23 +1,16 @@
 use mathlib.Core.Path.{◌≡◌, sym, ap, ◌∙◌}
-use mathlib.Core.Bool.{Bool}
-use mathlib.Core.List.{List, map}
-use Prim.Native.Nat.{ℕ, ◌+◌}
+use mathlib.Core.List.{map}
+use Prim.Native.Nat.{◌+◌}
 use native.Mathlib.Omega.{arith}
 use lib.ListN.{take}
-use Rattle.lists.specs.Lists.{nth}
 use Rattle.lists.proofs.places.Places.{nth-next}
 use Rattle.lists.proofs.members.Tests.{all-fails}
 use Rattle.sheet.specs.Sets.{items_of}
-use Rattle.division_reading.specs.declared.StatedLine.{StatedLine}
 use Rattle.stated_truth.specs.Lines.{no_line}
 use Rattle.stated_items.specs.Tests.{test_of}
-use Rattle.stated_items.specs.declared.Test.{Test}
+use Rattle.stated_items.proofs.cuts_pass.Invariants.{cut_passes}
 use Rattle.stated_items.proofs.cuts_pass.Goals as goal
 use Rattle.stated_items.proofs.cuts_pass.Goals.{After-bundles_pass}
-
--- whether the bundles of the cut of line k pass
-abbrev cut_passes : Test → ℕ → ℕ → List StatedLine → ℕ → Bool
-cut_passes test n m lines k = test_of test n m (map items_of (take n (nth no_line lines k).cut))
 
 -- the cut of the next line is tried
 tested : (c : After-bundles_pass)

@@ -13,7 +13,7 @@ use Rattle.stated_items.specs.declared.Test.{Test}
 use Rattle.stated_items.proofs.cuts_pass.Given as goal
 
 -- whether the bundles of the cut of line k pass
-abbrev cut_passes : Test → ℕ → ℕ → List StatedLine → ℕ → Bool
+abbrev pub cut_passes : Test → ℕ → ℕ → List StatedLine → ℕ → Bool
 cut_passes test n m lines k = test_of test n m (map items_of (take n (nth no_line lines k).cut))
 
 abbrev pub invariant-loop-i : goal.invariant-loop-i

@@ -7,11 +7,8 @@ use Rattle.lists.specs.Lists.{nth, padded}
 use Rattle.sheet.specs.Limits.{most_agents}
 use Rattle.lists.proofs.places.Padding.{padded-next}
 use Rattle.lists.proofs.places.Passing.{take_next, within-at}
+use Rattle.settling.proofs.handing.chosen_sets.Invariants.{stored_up_to}
 use Rattle.settling.proofs.handing.chosen_sets.Goals as goal
-
--- the sets of the first i bundles chosen, 0 after the last
-abbrev stored_up_to : List ℕ → List ℕ → ℕ → List ℕ
-stored_up_to sets chosen i = padded most_agents 0 (map (nth 0 sets) (take i chosen))
 
 stored_next : (sets chosen : List ℕ) (i : ℕ) → i < length chosen → length chosen ≤ most_agents
     → set (stored_up_to sets chosen i) i (nth 0 sets (get_or chosen i 0)) ≡ stored_up_to sets chosen (i + 1)

@@ -8,7 +8,7 @@ use Rattle.sheet.specs.Limits.{most_agents}
 use Rattle.settling.proofs.handing.chosen_sets.Given as goal
 
 -- the sets of the first i bundles chosen, 0 after the last
-abbrev stored_up_to : List ℕ → List ℕ → ℕ → List ℕ
+abbrev pub stored_up_to : List ℕ → List ℕ → ℕ → List ℕ
 stored_up_to sets chosen i = padded most_agents 0 (map (nth 0 sets) (take i chosen))
 
 abbrev pub invariant-loop-i : goal.invariant-loop-i

@@ -1,11 +1,9 @@
 use mathlib.Core.Path.{◌≡◌, sym, ap, ◌∙◌}
-use mathlib.Core.Bool.{Bool}
-use mathlib.Core.List.{List, map}
-use Prim.Native.Nat.{ℕ, ◌+◌, ◌*◌, ◌^◌, ◌≤◌, ◌<◌}
+use mathlib.Core.List.{map}
+use Prim.Native.Nat.{◌+◌, ◌*◌, ◌^◌, ◌≤◌, ◌<◌}
 use native.Mathlib.Nat.{mul_comm, pow-suc, pow-le-pow_right}
 use native.Mathlib.Numerals.{add-one}
 use native.Mathlib.Omega.{arith}
-use lib.Dec.{eqb}
 use lib.ListN.{take}
 use borrow.Author.Tests.{eq-eqb, ne_eqb}
 use Rattle.lists.specs.Lists.{range, all, count, elem}
@@ -14,12 +12,9 @@ use Rattle.sheet.specs.Limits.{most_items}
 use Rattle.sheet.specs.Sets.{items_of}
 use Rattle.sheet.proofs.sets.Counted.{has_bit, count-naming}
 use Rattle.stated_truth.specs.Truth.{each_in_one}
+use Rattle.stated_items.proofs.in_one.each_in_one.Invariants.{in_one}
 use Rattle.stated_items.proofs.in_one.each_in_one.Goals as goal
 use Rattle.stated_items.proofs.in_one.each_in_one.Goals.{After-naming, In-loop-i}
-
--- whether item k is in just one of the first n sets
-abbrev in_one : ℕ → List ℕ → ℕ → Bool
-in_one n sets k = eqb (count (elem k) (map items_of (take n sets))) 1
 
 -- the bit of the next item
 bit-told : (l : In-loop-i) → let s = l.loop-i in (1 ≤ s.bit) × (s.bit < 2 ^ most_items)

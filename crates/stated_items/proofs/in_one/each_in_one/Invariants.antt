@@ -10,7 +10,7 @@ use Rattle.sheet.specs.Sets.{items_of}
 use Rattle.stated_items.proofs.in_one.each_in_one.Given as goal
 
 -- whether item k is in just one of the first n sets
-abbrev in_one : ℕ → List ℕ → ℕ → Bool
+abbrev pub in_one : ℕ → List ℕ → ℕ → Bool
 in_one n sets k = eqb (count (elem k) (map items_of (take n sets))) 1
 
 abbrev pub invariant-loop-i : goal.invariant-loop-i

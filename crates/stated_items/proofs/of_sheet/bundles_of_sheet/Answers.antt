@@ -1,24 +1,20 @@
 use mathlib.Core.Path.{◌≡◌, sym, ap, ap₂, ◌∙◌}
-use mathlib.Core.Bool.{Bool}
-use mathlib.Core.List.{List, map}
-use Prim.Native.Nat.{ℕ, ◌+◌, min}
+use mathlib.Core.List.{map}
+use Prim.Native.Nat.{◌+◌, min}
 use native.Mathlib.Omega.{arith}
 use lib.ListN.{take}
 use mir.Syntax.{w16}
 use borrow.Kind.Array.{good_length, e_int}
-use Rattle.lists.specs.Lists.{range, nth, all}
+use Rattle.lists.specs.Lists.{range, all}
 use Rattle.lists.proofs.places.Places.{nth-next}
 use Rattle.lists.proofs.members.Tests.{all-next, all-fails}
 use Rattle.sheet.specs.Limits.{most_agents, most_items, within}
 use Rattle.sheet.specs.Sets.{items_of}
 use Rattle.stated_truth.specs.Truth.{of_sheet}
 use Rattle.stated_items.proofs.OfSheet.{of-sheet-places}
+use Rattle.stated_items.proofs.of_sheet.bundles_of_sheet.Invariants.{names_items}
 use Rattle.stated_items.proofs.of_sheet.bundles_of_sheet.Goals as goal
 use Rattle.stated_items.proofs.of_sheet.bundles_of_sheet.Goals.{After-names_items, Start}
-
--- whether set k names items of the sheet only
-abbrev names_items : ℕ → List ℕ → ℕ → Bool
-names_items m sets k = all (within m) (items_of (nth 0 sets k))
 
 -- the next set is tried
 tested : (c : After-names_items)

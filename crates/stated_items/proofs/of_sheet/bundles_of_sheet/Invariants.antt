@@ -9,7 +9,7 @@ use Rattle.sheet.specs.Sets.{items_of}
 use Rattle.stated_items.proofs.of_sheet.bundles_of_sheet.Given as goal
 
 -- whether set k names items of the sheet only
-abbrev names_items : ℕ → List ℕ → ℕ → Bool
+abbrev pub names_items : ℕ → List ℕ → ℕ → Bool
 names_items m sets k = all (within m) (items_of (nth 0 sets k))
 
 abbrev pub invariant-loop-i : goal.invariant-loop-i
