@@ -4,6 +4,7 @@ use mathlib.Core.List.{List, [], map, Memᴰ as Mem}
 use mathlib.Core.Option.{Option, none, some}
 use Prim.Native.Nat.{ℕ, min}
 use native.Mathlib.Omega.{arith}
+use borrow.Author.Rules.{rules}
 use lib.IntN.{ℤ, pos}
 use Rattle.lists.specs.Lists.{range, nth, padded}
 use Rattle.sheet.specs.Limits.{most_agents, most_items}
@@ -136,26 +137,31 @@ once c e = in-one-told c ∙ e
 pub returns-then-not-laid_out : goal.returns-then-not-laid_out
 returns-then-not-laid_out c =
     let t = (goal.at.returns-then-not-laid_out c).After-figures_true-correct in
-    c.refuse.ensures ∙ ap outcome (sym (off-layout t c.args.stated.read refl (sym (both_told t _ c.both-laid_out.ensures) ∙ c.if-not-laid_out.true)))
+    let answered = off-layout t c.args.stated.read refl (sym (both_told t _ c.both-laid_out.ensures) ∙ c.if-not-laid_out.true) in
+    rw answered (search rules)
 
 pub returns-then-not-once : goal.returns-then-not-once
 returns-then-not-once c =
     let t = (goal.at.returns-then-not-once c).After-figures_true-correct in
-    let both = sym c.if-not-laid_out.false ∙ c.both-laid_out.ensures in
+    let both : true ≡ c.args.stated.read && c.all_pass-named.result = cc in
     let out = in-one-told t ∙ c.if-not-once.true in
-    c.refuse-then-not-once.ensures ∙ ap outcome (sym (answer-read t both ∙ judged-not-once (sheet_in t) c.args.terms (division t) (passed t both).1 out))
+    let answered = answer-read t both ∙ judged-not-once (sheet_in t) c.args.terms (division t) (passed t both).1 out in
+    rw answered (search rules)
 
 pub returns-then-not-correct : goal.returns-then-not-correct
 returns-then-not-correct c =
     let t = (goal.at.returns-then-not-correct c).After-figures_true-correct in
-    let both = sym c.if-not-laid_out.false ∙ c.both-laid_out.ensures in
+    let both : true ≡ c.args.stated.read && c.all_pass-named.result = cc in
+    let one : c.all_pass-once.result ≡ true = cc in
     let out = figures-told t ∙ c.if-not-correct.true in
-    c.refuse-then-not-correct.ensures ∙ ap outcome (sym (answer-read t both ∙ judged-false (sheet_in t) c.args.terms (division t) (passed t both).1 (once t c.if-not-once.false) out))
+    let answered = answer-read t both ∙ judged-false (sheet_in t) c.args.terms (division t) (passed t both).1 (once t one) out in
+    rw answered (search rules)
 
 pub returns : goal.returns
 returns c =
     let t = (goal.at.returns c).After-figures_true-correct in
-    let both = sym c.if-not-laid_out.false ∙ c.both-laid_out.ensures in
+    let both : true ≡ c.args.stated.read && c.all_pass-named.result = cc in
+    let one : c.all_pass-once.result ≡ true = cc in
     let correct = figures-told t ∙ c.if-not-correct.false in
     ap (λ margins. record { answer = Accepted; margins = margins }) (margins-told t)
-    ∙ ap outcome (sym (answer-read t both ∙ judged-true (sheet_in t) c.args.terms (division t) (passed t both).1 (once t c.if-not-once.false) correct))
+    ∙ ap outcome (sym (answer-read t both ∙ judged-true (sheet_in t) c.args.terms (division t) (passed t both).1 (once t one) correct))
