@@ -1,4 +1,4 @@
-use mathlib.Core.Path.{◌≡◌, sym, ap, ◌∙◌}
+use mathlib.Core.Path.{◌≡◌, refl, sym, ap, ◌∙◌}
 use mathlib.Core.Bool.{true, false}
 use mathlib.Core.List.{List}
 use Prim.Native.Nat.{ℕ, ◌≤◌}
@@ -8,12 +8,12 @@ use borrow.Author.Tests.{lt-leb}
 use Rattle.lists.specs.Sums.{total}
 use Rattle.lists.proofs.places.Padding.{take-padded}
 use Rattle.sheet.specs.Limits.{most_agents, most_items, set_bits, within}
-use Rattle.sheet.specs.Answers.{accepted}
+use Rattle.sheet.specs.Answers.{accepted, map_answer}
 use Rattle.sheet.specs.Valuations.{values_of}
 use Rattle.sheet.proofs.Limits.{within-bounds}
 use Rattle.sheet.proofs.sets.Ranges.{names-only-below, names-one-above}
 use Rattle.sheet.proofs.valuing.Valuations.{length-values}
-use Rattle.cut.specs.Outcome.{found, cutting, outcome}
+use Rattle.cut.specs.Outcome.{found, cutting, stored}
 use Rattle.cut.proofs.Allowance.{cutting-within}
 use Rattle.cut.proofs.cut.Goals as goal
 use Rattle.cut.proofs.cut.Goals.{After-values_of-chosen, Else-not-is_within, Then-not-is_within}
@@ -43,17 +43,17 @@ bounds c = within-bounds most_agents c.args.bundles (bundles-within c.before.bef
 
 pub returns-then-not-is_within : goal.returns-then-not-is_within
 unfolding cutting
-returns-then-not-is_within c = rw (bundles-outside (goal.at.returns-then-not-is_within c).Then-not-is_within) c.refuse.ensures
+returns-then-not-is_within c = rw (bundles-outside (goal.at.returns-then-not-is_within c).Then-not-is_within) refl
 
 pub returns-then-set-ge-SETS : goal.returns-then-set-ge-SETS
 unfolding cutting
-returns-then-set-ge-SETS c = rw (bundles-within (goal.at.returns-then-set-ge-SETS c).Else-not-is_within, names-one-above c.args.set most_items (omega arith) (omega arith) (omega arith)) c.refuse-then-set-ge-SETS.ensures
+returns-then-set-ge-SETS c = rw (bundles-within (goal.at.returns-then-set-ge-SETS c).Else-not-is_within, names-one-above c.args.set most_items (omega arith) (omega arith) (omega arith)) refl
 
-pub returns-then-allowance-lt1 : goal.returns-then-allowance-lt1
+pub returns-then-allowance-eq0 : goal.returns-then-allowance-eq0
 unfolding cutting
-returns-then-allowance-lt1 c =
+returns-then-allowance-eq0 c =
     let a = c.args in
-    rw (bundles-within (goal.at.returns-then-allowance-lt1 c).Else-not-is_within, names-only-below a.set most_items (omega arith) (omega arith), lt-leb 1 a.allowance (omega arith)) c.refuse-then-allowance-lt1.ensures
+    rw (bundles-within (goal.at.returns-then-allowance-eq0 c).Else-not-is_within, names-only-below a.set most_items (omega arith) (omega arith), lt-leb 1 a.allowance (omega arith)) refl
 
 pub cut_values-requires : goal.cut_values-requires
 cut_values-requires c =
@@ -68,6 +68,6 @@ cut_values-requires c =
 pub returns : goal.returns
 returns c =
     let a = c.args in
-    c.cut_values.ensures
-    ∙ ap (λ values. outcome (accepted (found a.bundles values a.allowance))) (in_use (goal.at.returns c).After-values_of-chosen)
-    ∙ ap outcome (sym (cutting-within a.valuation a.set a.bundles a.allowance (bounds (goal.at.returns c).After-values_of-chosen).0 (bounds (goal.at.returns c).After-values_of-chosen).1 (omega arith) (omega arith)))
+    ap accepted c.cut_values.ensures
+    ∙ ap (λ values. accepted (stored (found a.bundles values a.allowance))) (in_use (goal.at.returns c).After-values_of-chosen)
+    ∙ ap (map_answer stored) (sym (cutting-within a.valuation a.set a.bundles a.allowance (bounds (goal.at.returns c).After-values_of-chosen).0 (bounds (goal.at.returns c).After-values_of-chosen).1 (omega arith) (omega arith)))
