@@ -3,7 +3,7 @@ use mathlib.Core.List.{List, foldl}
 use Rattle.std.specs.Prelude.{ℕ}
 use denote.Ref.{at_last}
 use Rattle.writing.specs.Output.{Output, output, with_byte}
-use Rattle.writer.specs.declared.Writer.{Writer}
+use Rattle.writing.specs.declared.Writer.{Writer}
 
 -- a writer as a buffer and a place
 abbrev pub output_of : Writer → Output
