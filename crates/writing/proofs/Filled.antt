@@ -9,7 +9,7 @@ use lib.Seq.{sets-eq, take_at}
 use Rattle.writing.specs.declared.Writer.{Writer}
 use Rattle.writing.specs.Output.{output, with_byte}
 use Rattle.writing.specs.Filled.{filled}
-use Rattle.writing.specs.WithText.{output_of, with_text}
+use Rattle.writing.specs.WithText.{output_of, Writes}
 use Rattle.writing.proofs.Written.{foldl-sets}
 
 -- a text that is written whole from the front of a buffer stands at the front, and the bytes after it are the old ones
@@ -27,9 +27,9 @@ output-whole old text new next w enough =
     record { reached = reached; bytes_of = bytes_of; front = rw bytes_of (take_at text (drop (length text) old) next (sym reached)) }
 
 -- so does what a writer writes that began at the front
-pub written-whole : (u w : Writer) (text : List ℕ) → w ≡ with_text u text → u.at ≡ 0 → length text ≤ length u.buffer.now → WholeAtFront u.buffer.now text w.buffer.now w.at
-written-whole u w text written front enough =
-    output-whole u.buffer.now text w.buffer.now w.at (ap output_of written ∙ ap (λ at. foldl with_byte (output u.buffer.now at) text) front) enough
+pub written-whole : {u w : Writer} {text : List ℕ} → Writes u text w → u.at ≡ 0 → length text ≤ length u.buffer.now → WholeAtFront u.buffer.now text w.buffer.now w.at
+written-whole {u} {w} {text} written front enough =
+    output-whole u.buffer.now text w.buffer.now w.at (ap output_of written.bytewise ∙ ap (λ at. foldl with_byte (output u.buffer.now at) text) front) enough
 
 -- the text's length is that of a front of the buffer that holds it
 pub filled-front : (text old : List ℕ) → (length text ≤ length (filled text old)) × (length text ≡ length (take (length text) (filled text old)))

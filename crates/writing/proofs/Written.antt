@@ -1,8 +1,8 @@
--- A text that has room is a run of stores; a writer leaves the buffer as long as it was, and what it writes from the front ends within it.
--- Assumes nothing.
+-- A text behind a text is one text; a text that has room is a run of stores; a writer leaves the buffer as long as it was, and what it
+-- writes from the front ends within it. Assumes nothing.
 use mathlib.Core.Path.{◌≡◌, refl, sym, ap, subst, ◌∙◌}
 use mathlib.Core.Bool.{Bool, true, false}
-use mathlib.Core.List.{List, [], ◌∷◌, foldl}
+use mathlib.Core.List.{List, [], ◌∷◌, ◌++◌, foldl, foldl-append}
 use Prim.Native.Nat.{ℕ, suc, ◌+◌, ◌≤◌}
 use native.Mathlib.Nat.{add-zero}
 use native.Mathlib.Numerals.{add-one}
@@ -11,7 +11,19 @@ use lib.Dec.{ltb}
 use lib.ListN.{length, set, length-set}
 use lib.Seq.{sets}
 use borrow.Author.Tests.{lt-ltb, ltb-true}
+use Rattle.writing.specs.declared.Writer.{Writer}
 use Rattle.writing.specs.Output.{Output, output, with_byte}
+use Rattle.writing.specs.WithText.{output_of, with_output, with_text, Writes}
+
+infixl 30 ◌then◌
+-- nothing is written
+pub nothing : {w : Writer} → Writes w [] w
+nothing = record { bytewise = refl }
+
+-- a text is written behind a text
+pub ◌then◌ : {u v w : Writer} {s t : List ℕ} → Writes u s v → Writes v t w → Writes u (s ++ t) w
+◌then◌ {u} {v} {w} {s} {t} first second =
+    record { bytewise = second.bytewise ∙ ap (λ x. with_text x t) first.bytewise ∙ ap (λ o. with_output u o) (sym (foldl-append with_byte (output_of u) s t)) }
 
 -- a text that has room is a run of stores
 pub foldl-sets : (old : List ℕ) (at : ℕ) (text : List ℕ) → at + length text ≤ length old → foldl with_byte (output old at) text ≡ output (sets old at text) (at + length text)

@@ -7,7 +7,7 @@ ghost use Rattle.sheet.specs.Answers.{after};
 ghost use Rattle.writing.specs.Answered.{answered};
 ghost use Rattle.writing.specs.Fields.{group};
 ghost use Rattle.writing.specs.Filled.{filling, filled};
-ghost use Rattle.writing.specs.WithText.{with_text};
+ghost use Rattle.writing.specs.WithText.{Writes};
 
 // What an entry that fills a lent buffer answers: the number of the reason why nothing is written, or the length of the text.
 #[derive(Clone, Copy)]
@@ -42,7 +42,7 @@ impl<'a> Writer<'a> {
 
     // One byte, where there is room.
     pub fn byte(&mut self, byte: u8)
-        ensures { self.new ≡ with_text self.old (byte ∷ []) }
+        ensures { Writes self.old (byte ∷ []) self.new }
     {
         let at = self.at;
         if at < self.buffer.len() {
@@ -53,7 +53,7 @@ impl<'a> Writer<'a> {
 
     // Bytes that stand in another buffer.
     pub fn bytes(&mut self, text: &[u8])
-        ensures { self.new ≡ with_text self.old text.now }
+        ensures { Writes self.old text.now self.new }
     {
         for byte in text {
             self.byte(*byte);
@@ -62,7 +62,7 @@ impl<'a> Writer<'a> {
 
     // A number in decimal digits: those of the tens, and then the last one.
     pub fn number(&mut self, n: u64)
-        ensures { self.new ≡ with_text self.old (decimal n) }
+        ensures { Writes self.old (decimal n) self.new }
     {
         if n >= 10 {
             self.number(n / 10);
@@ -72,7 +72,7 @@ impl<'a> Writer<'a> {
 
     // A whole number in decimal digits, with a minus sign where it is below zero.
     pub fn signed(&mut self, n: i64)
-        ensures { self.new ≡ with_text self.old (signed n) }
+        ensures { Writes self.old (signed n) self.new }
     {
         if n < 0 {
             self.byte(b'-');
@@ -82,7 +82,7 @@ impl<'a> Writer<'a> {
 
     // A number behind a space.
     pub fn spaced_number(&mut self, n: u64)
-        ensures { self.new ≡ with_text self.old (spaced_number n) }
+        ensures { Writes self.old (spaced_number n) self.new }
     {
         self.byte(b' ');
         self.number(n);
@@ -90,7 +90,7 @@ impl<'a> Writer<'a> {
 
     // A text and a number behind it.
     pub fn field(&mut self, text: &[u8], n: u64)
-        ensures { self.new ≡ with_text self.old (text.now ++ decimal n) }
+        ensures { Writes self.old (text.now ++ decimal n) self.new }
     {
         self.bytes(text);
         self.number(n);
@@ -98,7 +98,7 @@ impl<'a> Writer<'a> {
 
     // Numbers, each behind a space.
     pub fn spaced(&mut self, numbers: &[u8])
-        ensures { self.new ≡ with_text self.old (spaced_numbers numbers.now) }
+        ensures { Writes self.old (spaced_numbers numbers.now) self.new }
     {
         for n in numbers {
             self.spaced_number(u64::from(*n));
@@ -107,7 +107,7 @@ impl<'a> Writer<'a> {
 
     // Numbers in brackets.
     pub fn group(&mut self, numbers: &[u8])
-        ensures { self.new ≡ with_text self.old (group numbers.now) }
+        ensures { Writes self.old (group numbers.now) self.new }
     {
         match numbers {
             [] => self.bytes(b"()"),
