@@ -158,7 +158,5 @@ pub fn cut(valuation: Row, set: u16, bundles: usize, allowance: u32) -> Outcome
         return refuse(14);
     }
     let chosen = values_of(valuation, set);
-    let values = chosen.values;
-    let count = chosen.count;
-    cut_values(&values[..count], bundles, allowance)
+    cut_values(chosen.as_slice(), bundles, allowance)
 }
