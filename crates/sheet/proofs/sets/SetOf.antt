@@ -1,13 +1,16 @@
--- The set of the numbers that pass a test, from the first to the last. Assumes nothing.
+-- The set of the numbers that pass a test, from the first to the last, and that of a rising list. Assumes nothing.
 use mathlib.Core.Path.{◌≡◌, ap, ◌∙◌}
 use mathlib.Core.Bool.{Bool, true, false}
-use mathlib.Core.List.{[], ◌∷◌, ◌++◌, append-nil}
+use mathlib.Core.List.{List, [], ◌∷◌, ◌++◌, append-nil}
+use mathlib.Core.List.{Sublistᴰ as Sublist}
 use Prim.Native.Nat.{ℕ, ◌+◌, ◌^◌, ◌<◌}
 use native.Mathlib.Nat.{add-sub_cancel, add-zero}
 use Rattle.lists.specs.Lists.{range, filter}
 use Rattle.lists.proofs.places.Passing.{range-next}
 use Rattle.lists.proofs.members.Counting.{filter-append, filter-sublist}
-use Rattle.sheet.specs.Sets.{set_of}
+use Rattle.lists.proofs.members.Distinct.{range-distinct, filter-elem}
+use Rattle.sheet.specs.Limits.{set_bits}
+use Rattle.sheet.specs.Sets.{set_of, set_among}
 use Rattle.sheet.proofs.sets.Items.{set_of-append}
 use Rattle.sheet.proofs.sets.Ranges.{set_of-below}
 
@@ -31,3 +34,8 @@ module _ (p : ℕ → Bool) (i : ℕ) where
   -- the set names no number above i
   pub passed-small : set_of (filter p (range 1 i)) < 2 ^ i
   passed-small = set_of-below i (filter-sublist p (range 1 i))
+
+-- the set of a list of items in rising order
+pub set_among-rising : {l : List ℕ} → Sublist l (range 1 set_bits) → set_among l ≡ set_of l
+unfolding set_among
+set_among-rising s = ap set_of (filter-elem s (range-distinct 1 set_bits))
