@@ -1,7 +1,8 @@
 -- Items in rising order, one after another: the next one of a loop, and the set that they make. Assumes nothing.
 use mathlib.Core.Path.{◌≡◌, refl, sym, ap, ◌∙◌}
 use mathlib.Core.List.{List, [], ◌∷◌}
-use mathlib.Core.Option.{Option, none, some, none-ne-some}
+use Rattle.std.specs.Prelude.{Option, None, Some}
+use Rattle.std.proofs.lemmas.Option.{none-some}
 use mathlib.Core.Bool.{Bool, true, false, cond, ◌&&◌}
 use Prim.Native.Nat.{ℕ, suc, ◌+◌, ◌-◌, ◌^◌, ◌≤◌, ◌<◌}
 use native.Mathlib.Nat.{zero-add, add-zero, add_assoc, pow-suc, pow-le-pow_right}
@@ -24,33 +25,33 @@ use Rattle.bundle_reading.specs.declared.Bundle.TheVariants.{Items, Missed}
 
 module _ (items above : ℕ) where
   -- no number is left
-  pub no_item : (ts : List Token) → number count_digits ts ≡ none → rising_items items above ts ≡ some ([], ts)
+  pub no_item : (ts : List Token) → number count_digits ts ≡ None → rising_items items above ts ≡ Some ([], ts)
   unfolding rising_items number
   no_item [] e = refl
   no_item (t ∷ ts) e = go (is_number count_digits t) refl
     where
-      go : (test : Bool) → is_number count_digits t ≡ test → rising_items items above (t ∷ ts) ≡ some ([], t ∷ ts)
+      go : (test : Bool) → is_number count_digits t ≡ test → rising_items items above (t ∷ ts) ≡ Some ([], t ∷ ts)
       go false f = rw f
-      go true f = absurd (none-ne-some (digits_after 0 t, ts) (sym (rw f at e)))
+      go true f = absurd (none-some (digits_after 0 t, ts) (sym (rw f at e)))
 
   -- one that does not rise, one that is not on the sheet, and one that is read
   module _ (k : ℕ) (ts' : List Token) where
-    item-read : (ts : List Token) → number count_digits ts ≡ some (k, ts')
-        → rising_items items above ts ≡ cond (ltb above k && leb k items) (rising_items items k ts' >>= (λ r. some (k ∷ r.0, r.1))) none
+    item-read : (ts : List Token) → number count_digits ts ≡ Some (k, ts')
+        → rising_items items above ts ≡ cond (ltb above k && leb k items) (rising_items items k ts' >>= (λ r. Some (k ∷ r.0, r.1))) None
     unfolding rising_items number is_number
-    item-read [] e = absurd (none-ne-some _ e)
+    item-read [] e = absurd (none-some _ e)
     item-read (t ∷ ts) e =
         let read = number_passed count_digits t ts k ts' e in
         rw (read.0, read.1, read.2)
 
-    module _ (ts : List Token) (e : number count_digits ts ≡ some (k, ts')) where
-      pub item-not-above : k ≤ above → rising_items items above ts ≡ none
+    module _ (ts : List Token) (e : number count_digits ts ≡ Some (k, ts')) where
+      pub item-not-above : k ≤ above → rising_items items above ts ≡ None
       item-not-above h = item-read ts e ∙ rw (le-ltb above k h)
 
-      pub item-not-on-sheet : above < k → items < k → rising_items items above ts ≡ none
+      pub item-not-on-sheet : above < k → items < k → rising_items items above ts ≡ None
       item-not-on-sheet h l = item-read ts e ∙ rw (lt-ltb above k h, lt-leb k items l)
 
-      pub item-rises : above < k → k ≤ items → rising_items items above ts ≡ (rising_items items k ts' >>= (λ r. some (k ∷ r.0, r.1)))
+      pub item-rises : above < k → k ≤ items → rising_items items above ts ≡ (rising_items items k ts' >>= (λ r. Some (k ∷ r.0, r.1)))
       item-rises h l = item-read ts e ∙ rw (lt-ltb above k h, le-leb k items l)
 
 -- what is answered for items that are read behind those of a set
@@ -61,15 +62,15 @@ behind_set set s c o = answer_from Missed (λ items next. Items (set + set_of it
 module _ (s : List ℕ) (c : Cursor) where
   pub none_before : (o : Option (List ℕ × List Token)) → bundle_from s c o ≡ behind_set 0 s c o
   unfolding answer_from
-  none_before none = refl
-  none_before (some (l, ts)) = rw (zero-add (set_of l))
+  none_before None = refl
+  none_before (Some (l, ts)) = rw (zero-add (set_of l))
 
-  pub item-before : (set k : ℕ) (o : Option (List ℕ × List Token)) → behind_set set s c (o >>= (λ r. some (k ∷ r.0, r.1))) ≡ behind_set (set + 2 ^ (k - 1)) s c o
+  pub item-before : (set k : ℕ) (o : Option (List ℕ × List Token)) → behind_set set s c (o >>= (λ r. Some (k ∷ r.0, r.1))) ≡ behind_set (set + 2 ^ (k - 1)) s c o
   unfolding answer_from
-  item-before set k none = refl
-  item-before set k (some (l, ts)) = rw (add_assoc set (2 ^ (k - 1)) (set_of l))
+  item-before set k None = refl
+  item-before set k (Some (l, ts)) = rw (add_assoc set (2 ^ (k - 1)) (set_of l))
 
-  pub all-before : (set : ℕ) (ts : List Token) → behind_set set s c (some ([], ts)) ≡ Items set (place_left s c ts)
+  pub all-before : (set : ℕ) (ts : List Token) → behind_set set s c (Some ([], ts)) ≡ Items set (place_left s c ts)
   unfolding answer_from
   all-before set ts = rw (add-zero set)
 

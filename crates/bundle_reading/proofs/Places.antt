@@ -1,7 +1,7 @@
 -- What is left behind a bundle is the end of the tokens, and where it is left. Assumes nothing.
 use mathlib.Core.Path.{◌≡◌, refl}
 use mathlib.Core.List.{List, [], ◌∷◌, suffix_refl, suffix-cons}
-use mathlib.Core.Option.{Option, none, some}
+use Rattle.std.specs.Prelude.{Option, None, Some}
 use mathlib.Core.Bool.{Bool, true, false, cond, ◌&&◌}
 use Prim.Native.Nat.{ℕ}
 use native.Mathlib.Omega.{arith}
@@ -28,7 +28,7 @@ rising_items-leaves items above (t ∷ ts) =
   where
     go : (number test : Bool) → LeavesEnd (λ r. r.1) ts (rising_items items (digits_after 0 t) ts)
         → LeavesEnd (λ (r : List ℕ × List Token). r.1) (t ∷ ts)
-        (cond number (cond test (rising_items items (digits_after 0 t) ts >>= (λ r. some (digits_after 0 t ∷ r.0, r.1))) none) (some ([], t ∷ ts)))
+        (cond number (cond test (rising_items items (digits_after 0 t) ts >>= (λ r. Some (digits_after 0 t ∷ r.0, r.1))) None) (Some ([], t ∷ ts)))
     go false test later = suffix_refl (t ∷ ts)
     go true false later = tt
     go true true later =
@@ -50,16 +50,16 @@ pub record ReadAsSet (s : List ℕ) (c : Cursor) (o : Option (List ℕ × List T
 
 -- a bundle is missed, or it is read
 module _ (s : List ℕ) (c : Cursor) where
-  pub bundle-missed : (o : Option (List ℕ × List Token)) {r : bundle.Bundle} → r ≡ bundle_from s c o → r ≡ bundle.TheVariants.Missed → o ≡ none
+  pub bundle-missed : (o : Option (List ℕ × List Token)) {r : bundle.Bundle} → r ≡ bundle_from s c o → r ≡ bundle.TheVariants.Missed → o ≡ None
   unfolding answer_from
-  bundle-missed none told e = refl
-  bundle-missed (some q) told e = cc
+  bundle-missed None told e = refl
+  bundle-missed (Some q) told e = cc
 
   pub bundle-to : (o : Option (List ℕ × List Token)) {r : bundle.Bundle} {set : ℕ} {c' : Cursor} → LeavesEnd (λ q. q.1) (tokens_at s c) o → r ≡ bundle_from s c o
       → r ≡ bundle.TheVariants.Items set c' → ReadAsSet s c o set c'
   unfolding answer_from
-  bundle-to none last told e = let z : ◌≡◌ {A = ℕ} 0 1 = cc in absurd (omega arith)
-  bundle-to (some (l, ts)) last told e = record { items = l; to = read-to (λ us. (l, us)) last (cc); is_set = cc }
+  bundle-to None last told e = let z : ◌≡◌ {A = ℕ} 0 1 = cc in absurd (omega arith)
+  bundle-to (Some (l, ts)) last told e = record { items = l; to = read-to (λ us. (l, us)) last (cc); is_set = cc }
 
   -- a bundle behind a form
   pub bundle_after-read : (fs : List Token) (items : ℕ) {r : bundle.Bundle} {set : ℕ} {c' : Cursor} → r ≡ bundle_from s c (bundle_after fs items (tokens_at s c))

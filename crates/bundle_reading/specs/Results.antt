@@ -1,7 +1,6 @@
 -- What the code's reader of a bundle answers for what is read from the tokens at a place: nothing, or the set, and the place just behind it.
 -- Assumes nothing: these are definitions.
-use Rattle.std.specs.Prelude.{List, ℕ}
-use Rattle.std.proofs.Math.Option.{Option}
+use Rattle.std.specs.Prelude.{List, ℕ, Option}
 use Rattle.sheet.specs.Sets.{set_of}
 use Rattle.tokens.specs.Tokens.{Token}
 use Rattle.tokeniser.specs.declared.Cursor.{Cursor}

@@ -1,7 +1,7 @@
 -- What is left behind the numbers of a division is the end of the tokens, and where it is left. Assumes nothing.
 use mathlib.Core.Path.{◌≡◌, refl}
 use mathlib.Core.List.{List, suffix_refl}
-use mathlib.Core.Option.{Option, none, some}
+use Rattle.std.specs.Prelude.{Option, None, Some}
 use Prim.Native.Nat.{ℕ}
 use native.Mathlib.Omega.{arith}
 use Rattle.sheet.specs.Limits.{count_digits, sum_digits}
@@ -37,16 +37,16 @@ division_head-leaves agents items ts =
 
 module _ (s : List ℕ) (c : Cursor) where
   -- a worth and a share are missed, or they are read
-  pub stated_amounts-missed : (o : Option (ℕ × ℕ × List Token)) {r : stated.StatedAmounts} → r ≡ amounts_from s c o → r ≡ stated.TheVariants.Missed → o ≡ none
+  pub stated_amounts-missed : (o : Option (ℕ × ℕ × List Token)) {r : stated.StatedAmounts} → r ≡ amounts_from s c o → r ≡ stated.TheVariants.Missed → o ≡ None
   unfolding amounts_from
-  stated_amounts-missed none told e = refl
-  stated_amounts-missed (some q) told e = cc
+  stated_amounts-missed None told e = refl
+  stated_amounts-missed (Some q) told e = cc
 
   stated_amounts-to : (o : Option (ℕ × ℕ × List Token)) {r : stated.StatedAmounts} {worth share : ℕ} {c' : Cursor} → LeavesEnd (λ q. q.2) (tokens_at s c) o → r ≡ amounts_from s c o
       → r ≡ stated.TheVariants.Values worth share c' → ReadTo s c o (λ ts. (worth, share, ts)) c'
   unfolding amounts_from
-  stated_amounts-to none last told e = let z : ◌≡◌ {A = ℕ} 0 1 = cc in absurd (omega arith)
-  stated_amounts-to (some (w, h, ts)) {worth = worth} {share = share} last told e =
+  stated_amounts-to None last told e = let z : ◌≡◌ {A = ℕ} 0 1 = cc in absurd (omega arith)
+  stated_amounts-to (Some (w, h, ts)) {worth = worth} {share = share} last told e =
       let same : w ≡ worth = cc in
       let same-share : h ≡ share = cc in
       rw (same, same-share) (read-to (λ us. (worth, share, us)) last (cc))

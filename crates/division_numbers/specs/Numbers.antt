@@ -1,7 +1,6 @@
 -- The numbers that a division states, as forms of tokens and numbers (document 01, "The printed division"). Assumes nothing: these are
 -- definitions.
-use Rattle.std.specs.Prelude.{ℕ, List}
-use Rattle.std.proofs.Math.Option.{Option, some}
+use Rattle.std.specs.Prelude.{ℕ, List, Option, Some}
 use Rattle.sheet.specs.Limits.{count_digits, sum_digits}
 use Rattle.tokens.specs.Tokens.{Token}
 use Rattle.lexing.specs.Forms.{◌>>=◌, follow, form}
@@ -19,7 +18,7 @@ stated_amounts ts₀ = do
   (worth, ts₁) ← number_after (form before_worth) sum_digits ts₀
   (share, ts₂) ← number_after (form before_share) sum_digits ts₁
   ts₃ ← follow (form before_cut) ts₂
-  some (worth, share, ts₃)
+  Some (worth, share, ts₃)
 
 -- "The head repeats the counts and adds the grade": (division (yards 2) (pieces 3) (grade 3))
 unfoldable pub division_head : ℕ → ℕ → List Token → Option (ℕ × List Token)
@@ -28,4 +27,4 @@ division_head agents items ts₀ = do
   ts₂ ← follow_number (form before_items) count_digits items ts₁
   (grade, ts₃) ← number_after (form before_grade) grade_digits ts₂
   ts₄ ← follow (form line_end) ts₃
-  some (grade, ts₄)
+  Some (grade, ts₄)

@@ -1,7 +1,6 @@
 -- What the code's reader of a worth and a share answers for what is read from the tokens at a place: nothing, or the two, and the place just
 -- behind them. Assumes nothing: these are definitions.
-use Rattle.std.specs.Prelude.{List, ℕ}
-use Rattle.std.proofs.Math.Option.{Option, none, some}
+use Rattle.std.specs.Prelude.{List, ℕ, Option, None, Some}
 use Rattle.tokens.specs.Tokens.{Token}
 use Rattle.tokeniser.specs.Behind.{place_left}
 use Rattle.tokeniser.specs.declared.Cursor.{Cursor}
@@ -9,5 +8,5 @@ use Rattle.division_numbers.specs.declared.StatedAmounts as amounts
 
 -- a worth and a share
 unfoldable pub amounts_from : List ℕ → Cursor → Option (ℕ × ℕ × List Token) → amounts.StatedAmounts
-amounts_from s c none = amounts.TheVariants.Missed
-amounts_from s c (some (worth, share, ts)) = amounts.TheVariants.Values worth share (place_left s c ts)
+amounts_from s c None = amounts.TheVariants.Missed
+amounts_from s c (Some (worth, share, ts)) = amounts.TheVariants.Values worth share (place_left s c ts)

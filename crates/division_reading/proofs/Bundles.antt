@@ -8,7 +8,7 @@ use mathlib.Core.List.{List, [], ◌∷◌, map, Memᴰ as Mem}
 use mathlib.Core.List.Memᴰ.{cases_cons}
 use mathlib.Core.List.Memᴰ.{not-nil}
 use mathlib.Core.List.{Sublistᴰ as Sublist}
-use mathlib.Core.Option.{none, some}
+use Rattle.std.specs.Prelude.{None, Some}
 use Prim.Native.Nat.{ℕ, ◌≤◌, ◌<◌}
 use native.Mathlib.Omega.{arith}
 use lib.Dec.{leb, ltb}
@@ -49,7 +49,7 @@ items_rise items above (t ∷ ts) = go (is_number count_digits t) (ltb above ite
     item = digits_after 0 t
 
     go : (number test : Bool) → (ltb above item && leb item items) ≡ test → Holds (λ r. RisingAbove items item r.0) (rising_items items item ts)
-        → Holds (λ (r : List ℕ × List Token). RisingAbove items above r.0) (cond number (cond test (rising_items items item ts >>= (λ r. some (item ∷ r.0, r.1))) none) (some ([], t ∷ ts)))
+        → Holds (λ (r : List ℕ × List Token). RisingAbove items above r.0) (cond number (cond test (rising_items items item ts >>= (λ r. Some (item ∷ r.0, r.1))) None) (Some ([], t ∷ ts)))
     go false test e later = record { rising = tt; bounds = λ k m. absurd (not-nil m) }
     go true false e later = tt
     go true true e later =

@@ -2,7 +2,7 @@
 -- computation. Assumes nothing.
 use mathlib.Core.Path.{◌≡◌, refl}
 use mathlib.Core.List.{List, [], ◌∷◌, map, flat_map}
-use mathlib.Core.Option.{Option, none, some}
+use Rattle.std.specs.Prelude.{Option, None, Some}
 use Prim.Native.String.{String}
 use Rattle.text.specs.Bytes.{bytes}
 use Rattle.tokens.specs.Lines.{on_first, lines, before_remark}
@@ -26,25 +26,25 @@ division_a =
 -- of two yards and three pieces: each text with what is read of it
 abbrev pub samples : List (String × Option Stated)
 samples =
-    ("(division (yards 2) (pieces 3) (grade 3))\n(yard 1 (pile 1) (worth 5) (share 5) (cut (1) (2 3)))\n(yard 2 (pile 2 3) (worth 4) (share 4) (cut (1) (2 3)))\n(end)\n", some division_a)
-    ∷ ("; from the website\n(division (yards 2)(pieces 3)( grade 3 ))\n\n(yard 1 (pile 1) (worth 5) (share 5) (cut (1)(2  3)))\n(yard 2 (pile 2 3) (worth 4) (share 4) (cut (1) (2 3) ) ) ; mine\n(end)\n  ", some division_a)
+    ("(division (yards 2) (pieces 3) (grade 3))\n(yard 1 (pile 1) (worth 5) (share 5) (cut (1) (2 3)))\n(yard 2 (pile 2 3) (worth 4) (share 4) (cut (1) (2 3)))\n(end)\n", Some division_a)
+    ∷ ("; from the website\n(division (yards 2)(pieces 3)( grade 3 ))\n\n(yard 1 (pile 1) (worth 5) (share 5) (cut (1)(2  3)))\n(yard 2 (pile 2 3) (worth 4) (share 4) (cut (1) (2 3) ) ) ; mine\n(end)\n  ", Some division_a)
     -- other counts
-    ∷ ("(division (yards 3) (pieces 3) (grade 3))\n(yard 1 (pile 1) (worth 5) (share 5) (cut (1) (2 3)))\n(yard 2 (pile 2 3) (worth 4) (share 4) (cut (1) (2 3)))\n(end)\n", none)
-    ∷ ("(division (yards 2) (pieces 4) (grade 3))\n(yard 1 (pile 1) (worth 5) (share 5) (cut (1) (2 3)))\n(yard 2 (pile 2 3) (worth 4) (share 4) (cut (1) (2 3)))\n(end)\n", none)
-    ∷ ("(division (yards 2) (pieces 3) (grade 3))\n(yard 1 (pile 1) (worth 5) (share 5) (cut (1) (2 3) ()))\n(yard 2 (pile 2 3) (worth 4) (share 4) (cut (1) (2 3)))\n(end)\n", none)
+    ∷ ("(division (yards 3) (pieces 3) (grade 3))\n(yard 1 (pile 1) (worth 5) (share 5) (cut (1) (2 3)))\n(yard 2 (pile 2 3) (worth 4) (share 4) (cut (1) (2 3)))\n(end)\n", None)
+    ∷ ("(division (yards 2) (pieces 4) (grade 3))\n(yard 1 (pile 1) (worth 5) (share 5) (cut (1) (2 3)))\n(yard 2 (pile 2 3) (worth 4) (share 4) (cut (1) (2 3)))\n(end)\n", None)
+    ∷ ("(division (yards 2) (pieces 3) (grade 3))\n(yard 1 (pile 1) (worth 5) (share 5) (cut (1) (2 3) ()))\n(yard 2 (pile 2 3) (worth 4) (share 4) (cut (1) (2 3)))\n(end)\n", None)
     -- a grade of two digits, a worth of twelve
-    ∷ ("(division (yards 2) (pieces 3) (grade 10))\n(yard 1 (pile 1) (worth 5) (share 5) (cut (1) (2 3)))\n(yard 2 (pile 2 3) (worth 4) (share 4) (cut (1) (2 3)))\n(end)\n", none)
-    ∷ ("(division (yards 2) (pieces 3) (grade 3))\n(yard 1 (pile 1) (worth 100000000000) (share 5) (cut (1) (2 3)))\n(yard 2 (pile 2 3) (worth 4) (share 4) (cut (1) (2 3)))\n(end)\n", none)
+    ∷ ("(division (yards 2) (pieces 3) (grade 10))\n(yard 1 (pile 1) (worth 5) (share 5) (cut (1) (2 3)))\n(yard 2 (pile 2 3) (worth 4) (share 4) (cut (1) (2 3)))\n(end)\n", None)
+    ∷ ("(division (yards 2) (pieces 3) (grade 3))\n(yard 1 (pile 1) (worth 100000000000) (share 5) (cut (1) (2 3)))\n(yard 2 (pile 2 3) (worth 4) (share 4) (cut (1) (2 3)))\n(end)\n", None)
     -- pieces that do not rise, in a pile and in a cut, and a piece not on the sheet
-    ∷ ("(division (yards 2) (pieces 3) (grade 3))\n(yard 1 (pile 1) (worth 5) (share 5) (cut (1) (2 3)))\n(yard 2 (pile 3 2) (worth 4) (share 4) (cut (1) (2 3)))\n(end)\n", none)
-    ∷ ("(division (yards 2) (pieces 3) (grade 3))\n(yard 1 (pile 1) (worth 5) (share 5) (cut (1) (2 2)))\n(yard 2 (pile 2 3) (worth 4) (share 4) (cut (1) (2 3)))\n(end)\n", none)
-    ∷ ("(division (yards 2) (pieces 3) (grade 3))\n(yard 1 (pile 1) (worth 5) (share 5) (cut (1) (2 3)))\n(yard 2 (pile 2 3 4) (worth 4) (share 4) (cut (1) (2 3)))\n(end)\n", none)
-    ∷ ("(division (yards 2) (pieces 3) (grade 3))\n(yard 1 (pile 0 1) (worth 5) (share 5) (cut (1) (2 3)))\n(yard 2 (pile 2 3) (worth 4) (share 4) (cut (1) (2 3)))\n(end)\n", none)
+    ∷ ("(division (yards 2) (pieces 3) (grade 3))\n(yard 1 (pile 1) (worth 5) (share 5) (cut (1) (2 3)))\n(yard 2 (pile 3 2) (worth 4) (share 4) (cut (1) (2 3)))\n(end)\n", None)
+    ∷ ("(division (yards 2) (pieces 3) (grade 3))\n(yard 1 (pile 1) (worth 5) (share 5) (cut (1) (2 2)))\n(yard 2 (pile 2 3) (worth 4) (share 4) (cut (1) (2 3)))\n(end)\n", None)
+    ∷ ("(division (yards 2) (pieces 3) (grade 3))\n(yard 1 (pile 1) (worth 5) (share 5) (cut (1) (2 3)))\n(yard 2 (pile 2 3 4) (worth 4) (share 4) (cut (1) (2 3)))\n(end)\n", None)
+    ∷ ("(division (yards 2) (pieces 3) (grade 3))\n(yard 1 (pile 0 1) (worth 5) (share 5) (cut (1) (2 3)))\n(yard 2 (pile 2 3) (worth 4) (share 4) (cut (1) (2 3)))\n(end)\n", None)
     -- lines out of turn, the cutters line, and something behind the last line
-    ∷ ("(division (yards 2) (pieces 3) (grade 3))\n(yard 2 (pile 1) (worth 5) (share 5) (cut (1) (2 3)))\n(yard 1 (pile 2 3) (worth 4) (share 4) (cut (1) (2 3)))\n(end)\n", none)
-    ∷ ("(division (yards 2) (pieces 3) (grade 3))\n(yard 1 (pile 1) (worth 5) (share 5) (cut (1) (2 3)))\n(yard 2 (pile 2 3) (worth 4) (share 4) (cut (1) (2 3)))\n(cutters 1)\n(end)\n", none)
-    ∷ ("(division (yards 2) (pieces 3) (grade 3))\n(yard 1 (pile 1) (worth 5) (share 5) (cut (1) (2 3)))\n(yard 2 (pile 2 3) (worth 4) (share 4) (cut (1) (2 3)))\n(end)\n(end)\n", none)
-    ∷ ("", none)
+    ∷ ("(division (yards 2) (pieces 3) (grade 3))\n(yard 2 (pile 1) (worth 5) (share 5) (cut (1) (2 3)))\n(yard 1 (pile 2 3) (worth 4) (share 4) (cut (1) (2 3)))\n(end)\n", None)
+    ∷ ("(division (yards 2) (pieces 3) (grade 3))\n(yard 1 (pile 1) (worth 5) (share 5) (cut (1) (2 3)))\n(yard 2 (pile 2 3) (worth 4) (share 4) (cut (1) (2 3)))\n(cutters 1)\n(end)\n", None)
+    ∷ ("(division (yards 2) (pieces 3) (grade 3))\n(yard 1 (pile 1) (worth 5) (share 5) (cut (1) (2 3)))\n(yard 2 (pile 2 3) (worth 4) (share 4) (cut (1) (2 3)))\n(end)\n(end)\n", None)
+    ∷ ("", None)
     ∷ []
 
 pub samples-read : map (λ p. reading_division 2 3 (tokens (bytes p.0))) samples ≡ map (λ p. p.1) samples
@@ -54,7 +54,7 @@ samples-read = refl
 -- empty piles: `(pile)`, and `()` in a cut; each has the set 0
 pub empty-piles-read :
     reading_division 2 1 (tokens (bytes "(division (yards 2) (pieces 1) (grade 3))\n(yard 1 (pile 1) (worth 7) (share 0) (cut (1) ()))\n(yard 2 (pile) (worth 0) (share 0) (cut () (1)))\n(end)\n"))
-    ≡ some
+    ≡ Some
     (record {
       grade = 3;
       lines = record { bundle = 1 ∷ []; worth = 7; share = 0; cut = (1 ∷ []) ∷ [] ∷ [] }

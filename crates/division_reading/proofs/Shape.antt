@@ -2,7 +2,7 @@
 -- sheet only, and figures in so many digits. Assumes nothing.
 use mathlib.Core.Path.{◌≡◌}
 use mathlib.Core.List.{List, Memᴰ as Mem}
-use mathlib.Core.Option.{Option, some}
+use Rattle.std.specs.Prelude.{Option, Some}
 use Prim.Native.Nat.{ℕ, ◌^◌, ◌<◌}
 use lib.ListN.{length}
 use Rattle.lists.proofs.members.Each.{Each, each-mem}
@@ -87,7 +87,7 @@ division-holds agents items ts =
     (λ g below. then-holds _ (λ r. (length r.0 ≡ agents) × Each (LineRead agents items) r.0) (division_lines agents items g.1) _ (lines-read agents items g.1)
     (λ r shape. read-holds _ (end_line ended r.1) _ (λ ts₃. (well-formed agents items r.0 shape.1 g.0 shape.0, few-digits agents items r.0 shape.1 g.0 below))))
 
-module _ (agents items : ℕ) (ts : List Token) (d : Stated) (read : division_text agents items ts ≡ some d) where
+module _ (agents items : ℕ) (ts : List Token) (d : Stated) (read : division_text agents items ts ≡ Some d) where
   pub division-shape : WellFormed agents items d
   division-shape = (rw read at (division-holds agents items ts)).0
 

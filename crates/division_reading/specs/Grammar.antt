@@ -2,8 +2,7 @@
 -- (pieces) of the sheet. Refusal 11 of document 02 is all that is not read: "a text off the layout (a pile's pieces rise, also in a cut; a
 -- worth or share has at most eleven digits, a grade one), with other counts of yards, pieces or a cut's piles, or naming a piece not on the
 -- sheet". Assumes nothing: these are definitions.
-use Rattle.std.specs.Prelude.{ℕ, List, cond, ◌&&◌, leb}
-use Rattle.std.proofs.Math.Option.{Option, none, some}
+use Rattle.std.specs.Prelude.{ℕ, List, cond, ◌&&◌, leb, Option, None, Some}
 use Rattle.sheet.specs.Limits.{most_agents, most_items, count_digits}
 use Rattle.tokens.specs.Tokens.{Token}
 use Rattle.lexing.specs.Forms.{◌>>=◌, ended, follow, form, in_turn}
@@ -33,7 +32,7 @@ division_line agents items turn ts₀ = do
   (worth, share, ts₂) ← stated_amounts ts₁
   (cut, ts₃) ← cut_bundles agents items ts₂
   ts₄ ← follow (form line_end) ts₃
-  some (record { bundle = bundle; worth = worth; share = share; cut = cut }, ts₄)
+  Some (record { bundle = bundle; worth = worth; share = share; cut = cut }, ts₄)
 
 -- one line a yard, from yard 1 upward
 abbrev pub division_lines : ℕ → ℕ → List Token → Option (List StatedLine × List Token)
@@ -45,8 +44,8 @@ division_text agents items ts₀ = do
   (grade, ts₁) ← division_head agents items ts₀
   (lines, ts₂) ← division_lines agents items ts₁
   ts₃ ← end_line ended ts₂
-  some (record { grade = grade; lines = lines })
+  Some (record { grade = grade; lines = lines })
 
 -- no sheet has counts beyond its limits, and no division of one is read
 unfoldable pub reading_division : ℕ → ℕ → List Token → Option Stated
-reading_division agents items ts = cond (leb agents most_agents && leb items most_items) (division_text agents items ts) none
+reading_division agents items ts = cond (leb agents most_agents && leb items most_items) (division_text agents items ts) None

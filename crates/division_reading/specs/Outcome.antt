@@ -1,7 +1,6 @@
 -- How the code's result stands for what is read of a division: bundles as 16-bit sets, lines and cuts in six places. Assumes nothing:
 -- these are definitions.
-use Rattle.std.specs.Prelude.{List, map, true, false, ℕ, replicate}
-use Rattle.std.proofs.Math.Option.{Option, none, some}
+use Rattle.std.specs.Prelude.{List, map, true, false, ℕ, replicate, Option, None, Some}
 use Rattle.lists.specs.Lists.{padded, zeros}
 use Rattle.sheet.specs.Limits.{most_agents}
 use Rattle.sheet.specs.Sets.{set_of}
@@ -29,5 +28,5 @@ kept_lines lines = padded most_agents blank_line (map kept_line lines)
 
 -- nothing is read, or all that the division states
 abbrev pub kept : Option Stated → stated.Stated
-kept none = record { read = false; grade = 0; lines = blank_lines }
-kept (some d) = record { read = true; grade = d.grade; lines = kept_lines d.lines }
+kept None = record { read = false; grade = 0; lines = blank_lines }
+kept (Some d) = record { read = true; grade = d.grade; lines = kept_lines d.lines }

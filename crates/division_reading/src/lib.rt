@@ -1,8 +1,7 @@
 // Reading a division, as members bring it, at a place of a text: all that it states, or that it is off the layout.
 #![tactic(auto)]
 
-ghost use Rattle.std.specs.Prelude.{◌≡◌};
-ghost use Rattle.std.proofs.Math.Option.{none};
+ghost use Rattle.std.specs.Prelude.{◌≡◌, None};
 ghost use Rattle.tokeniser.specs.Places.{tokens_at};
 ghost use Rattle.division_reading.specs.Grammar.{reading_division};
 ghost use Rattle.division_reading.specs.Outcome.{blank_line, blank_lines, kept};
@@ -55,7 +54,7 @@ pub(crate) fn blank_lines() -> [StatedLine; Sheet::AGENTS]
 
 // A division that is not read.
 fn unread() -> Stated
-    ensures { result ≡ kept none }
+    ensures { result ≡ kept None }
 {
     Stated {
         read: false,

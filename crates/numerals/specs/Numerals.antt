@@ -1,6 +1,5 @@
 -- Numbers in decimal digits, by their bytes (document 01, "The sheet"). Assumes nothing: these are definitions.
-use Rattle.std.specs.Prelude.{ℕ, ◌+◌, ◌-◌, ◌*◌, List, [], ◌∷◌, Bool, not, cond, ◌&&◌, ◌||◌, length, get_or, leb, ltb, eqb}
-use Rattle.std.proofs.Math.Option.{Option, none, some}
+use Rattle.std.specs.Prelude.{ℕ, ◌+◌, ◌-◌, ◌*◌, List, [], ◌∷◌, Bool, not, cond, ◌&&◌, ◌||◌, length, get_or, leb, ltb, eqb, Option, None, Some}
 use Rattle.lists.specs.Lists.{all}
 
 -- the most digits that are read: a number of 19 digits is below 2 ^ 64
@@ -29,4 +28,4 @@ digits_after n (b ∷ bs) = digits_after (n * 10 + (b - 48)) bs
 
 -- the value of bytes that are a number in at most so many digits
 abbrev pub numeral_value : ℕ → List ℕ → Option ℕ
-numeral_value most w = cond (is_number most w) (some (digits_after 0 w)) none
+numeral_value most w = cond (is_number most w) (Some (digits_after 0 w)) None

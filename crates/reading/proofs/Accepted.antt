@@ -1,7 +1,8 @@
 -- What an accepted text has: each test of the reading, passed; and a text that passes them is accepted. Assumes nothing.
 use mathlib.Core.Path.{◌≡◌, refl, sym, ap, ap₂, ◌∙◌, subst}
 use mathlib.Core.List.{List, [], ◌∷◌}
-use mathlib.Core.Option.{Option, none, some, some-injective}
+use Rattle.std.specs.Prelude.{Option, None, Some}
+use Rattle.lexing.proofs.readers.Tested.{some-injective}
 use mathlib.Core.Bool.{Bool, true, false, cond, false≢true}
 use Prim.Native.Nat.{ℕ}
 use native.Mathlib.Omega.{arith}
@@ -49,30 +50,30 @@ pub record AcceptedText (limits : MarkLimits) (text : List ℕ) (c : Contents) (
   pub short : leb (length text) longest_text ≡ true
   pub some_byte : ltb 0 (length text) ≡ true
   pub after_head : List Token
-  pub head_is : head (tokens text) ≡ some (c.agents, c.items, after_head)
+  pub head_is : head (tokens text) ≡ Some (c.agents, c.items, after_head)
   pub agents_within : agents_allowed c.agents ≡ true
   pub items_within : items_allowed c.items ≡ true
   pub lines : Body
   pub last : List Token
-  pub lines_are : body limits.digits c.agents c.items after_head ≡ some (lines, last)
-  pub ends : follow (form last_line) last ≡ some behind
+  pub lines_are : body limits.digits c.agents c.items after_head ≡ Some (lines, last)
+  pub ends : follow (form last_line) last ≡ Some behind
   pub carries : contents_of limits c.agents c.items lines ≡ accepted c
 
 -- the line `(end)`, and what stands behind it
 module _ (may_follow : List Token → Bool) (ts behind : List Token) where
-  pub end_line-ends : end_line may_follow ts ≡ some behind → (follow (form last_line) ts ≡ some behind) × (may_follow behind ≡ true)
+  pub end_line-ends : end_line may_follow ts ≡ Some behind → (follow (form last_line) ts ≡ Some behind) × (may_follow behind ≡ true)
   unfolding end_line
   end_line-ends e = go (follow (form last_line) ts) e
     where
-      tested : (ts' : List Token) (test : Bool) → may_follow ts' ≡ test → cond test (some ts') none ≡ some behind → (some ts' ≡ some behind) × (may_follow behind ≡ true)
+      tested : (ts' : List Token) (test : Bool) → may_follow ts' ≡ test → cond test (Some ts') None ≡ Some behind → (Some ts' ≡ Some behind) × (may_follow behind ≡ true)
       tested ts' true passed e = (e, rw (some-injective _ _ e) at passed)
       tested ts' false passed e = let z : ◌≡◌ {A = ℕ} 0 1 = cc in absurd (omega arith)
 
-      go : (o : Option (List Token)) → (o >>= (λ ts'. cond (may_follow ts') (some ts') none)) ≡ some behind → (o ≡ some behind) × (may_follow behind ≡ true)
-      go none e = let z : ◌≡◌ {A = ℕ} 0 1 = cc in absurd (omega arith)
-      go (some ts') e = tested ts' (may_follow ts') refl e
+      go : (o : Option (List Token)) → (o >>= (λ ts'. cond (may_follow ts') (Some ts') None)) ≡ Some behind → (o ≡ Some behind) × (may_follow behind ≡ true)
+      go None e = let z : ◌≡◌ {A = ℕ} 0 1 = cc in absurd (omega arith)
+      go (Some ts') e = tested ts' (may_follow ts') refl e
 
-  pub ends-end_line : follow (form last_line) ts ≡ some behind → may_follow behind ≡ true → end_line may_follow ts ≡ some behind
+  pub ends-end_line : follow (form last_line) ts ≡ Some behind → may_follow behind ≡ true → end_line may_follow ts ≡ Some behind
   unfolding end_line
   ends-end_line e allowed = rw (e, allowed)
 
@@ -87,8 +88,8 @@ accepted-behind (accepted sheet) ts c behind e =
 -- a text with a sheet of these counts and lines, which carry c
 module _ (limits : MarkLimits) (text : List ℕ) (c : Contents) (behind : List Token) where
   text-carries : (agents items : ℕ) (after_head : List Token) (lines : Body) (last : List Token) → leb (length text) longest_text ≡ true → ltb 0 (length text) ≡ true
-      → head (tokens text) ≡ some (agents, items, after_head) → agents_allowed agents ≡ true → items_allowed items ≡ true
-      → body limits.digits agents items after_head ≡ some (lines, last) → follow (form last_line) last ≡ some behind → contents_of limits agents items lines ≡ accepted c
+      → head (tokens text) ≡ Some (agents, items, after_head) → agents_allowed agents ≡ true → items_allowed items ≡ true
+      → body limits.digits agents items after_head ≡ Some (lines, last) → follow (form last_line) last ≡ Some behind → contents_of limits agents items lines ≡ accepted c
       → AcceptedText limits text c behind
   text-carries agents items after_head lines last short some_byte counts few few_items are ends carries =
       let told = contents_of-carried limits agents items lines c carries in
@@ -120,7 +121,7 @@ module _ (limits : MarkLimits) (may_follow : List Token → Bool) (text : List �
       let followed = end_line-ends may_follow lines.0.1 ends.0 ends.1 in
       let sheet = accepted-behind (contents_of limits counts.0.0 counts.0.1 lines.0.0) ends.0 c behind ends.2 in (
         text-carries limits text c behind counts.0.0 counts.0.1 counts.0.2 lines.0.0 lines.0.1 short.0 some_byte.0 counts.1 few.0 few_items.0 lines.1
-            (followed.0 ∙ ap some sheet.1) sheet.0,
+            (followed.0 ∙ ap Some sheet.1) sheet.0,
         sym (ap may_follow sheet.1) ∙ followed.1,
       )
 

@@ -2,7 +2,7 @@
 -- Assumes nothing.
 use mathlib.Core.Path.{◌≡◌, refl, ap}
 use mathlib.Core.List.{List, [], ◌∷◌}
-use mathlib.Core.Option.{Option, none, some}
+use Rattle.std.specs.Prelude.{Option, None, Some}
 use mathlib.Core.Bool.{Bool, true, false, cond}
 use mathlib.Core.Logic.{◌↔◌, ◌⊎◌, inl, inr, ⊎_elim}
 use Prim.Native.Nat.{ℕ}
@@ -43,8 +43,8 @@ require-alike n false a b alike = inr refl
 
 require_some-alike : {A : Type 0} (n : ℕ) (o : Option A) (f g : A → Answer (Contents × List Token)) → ((a : A) → RefusedOrSame (f a) (g a))
     → RefusedOrSame (require_some n o f) (require_some n o g)
-require_some-alike n none f g alike = inr refl
-require_some-alike n (some a) f g alike = alike a
+require_some-alike n None f g alike = inr refl
+require_some-alike n (Some a) f g alike = alike a
 
 -- the line `(end)` at the end of the text, or before another text
 end_line-alike : (ts : List Token) (f : List Token → Answer (Contents × List Token)) → RefusedOrSame (require_some 7 (end_line ended ts) f) (require_some 7 (end_line anything ts) f)
@@ -52,10 +52,10 @@ unfolding end_line
 end_line-alike ts f = go (follow (form last_line) ts)
   where
     go : (o : Option (List Token))
-        → RefusedOrSame (require_some 7 (o >>= (λ behind. cond (ended behind) (some behind) none)) f) (require_some 7 (o >>= (λ behind. cond (anything behind) (some behind) none)) f)
-    go none = inr refl
-    go (some []) = inr refl
-    go (some (t ∷ behind)) = inl refl
+        → RefusedOrSame (require_some 7 (o >>= (λ behind. cond (ended behind) (Some behind) None)) f) (require_some 7 (o >>= (λ behind. cond (anything behind) (Some behind) None)) f)
+    go None = inr refl
+    go (Some []) = inr refl
+    go (Some (t ∷ behind)) = inl refl
 
 -- a text is refused with 7 as a sheet, or its sheet is read alike whether or not another text may stand behind it
 pub alone-or-alike : (limits : MarkLimits) (text : List ℕ) → RefusedOrSame (sheet_at_front limits ended text) (sheet_at_front limits anything text)

@@ -3,7 +3,7 @@
 use mathlib.Core.Path.{◌≡◌, sym, ap, ◌∙◌}
 use mathlib.Core.List.{List}
 use mathlib.Core.Bool.{true}
-use mathlib.Core.Option.{some}
+use Rattle.std.specs.Prelude.{Some}
 use Prim.Native.Nat.{ℕ, ◌≤◌}
 use native.Mathlib.Omega.{arith}
 use borrow.Author.Tests.{leb-true, le-leb}
@@ -31,7 +31,7 @@ module _ (digits digits' : ℕ) (more : digits ≤ digits') where
   yard_line-also items turn ts =
       then-also (yard_turn turn ts) (yard_turn turn ts) _ _ (also-itself (yard_turn turn ts))
       (λ ts₁. then-also (marks digits' items ts₁) (marks digits items ts₁) _ _ (marks-also items ts₁)
-      (λ r. also-itself (follow (form line_end) r.1 >>= (λ ts₂. some (r.0, ts₂)))))
+      (λ r. also-itself (follow (form line_end) r.1 >>= (λ ts₂. Some (r.0, ts₂)))))
 
   yard_lines-also : (agents items : ℕ) (ts : List Token) → AlsoReads (yard_lines digits' agents items ts) (yard_lines digits agents items ts)
   yard_lines-also agents items = in-turn-also (yard_line digits' items) (yard_line digits items) (yard_line-also items) 1 agents
@@ -39,7 +39,7 @@ module _ (digits digits' : ℕ) (more : digits ≤ digits') where
   body-also : (agents items : ℕ) (ts : List Token) → AlsoReads (body digits' agents items ts) (body digits agents items ts)
   unfolding body
   body-also agents items ts =
-      then-also (yard_lines digits' agents items ts) (yard_lines digits agents items ts) _ _ (yard_lines-also agents items ts) (λ r. also-itself (some (record { rows = r.0 }, r.1)))
+      then-also (yard_lines digits' agents items ts) (yard_lines digits agents items ts) _ _ (yard_lines-also agents items ts) (λ r. also-itself (Some (record { rows = r.0 }, r.1)))
 
 -- a row allowed by one greatest mark is allowed by a greater one
 row-allowed-also : (greatest greatest' : ℕ) → greatest ≤ greatest' → (row : List ℕ) → allowed_row greatest row ≡ true → allowed_row greatest' row ≡ true

@@ -1,7 +1,7 @@
 -- What an accepted answer says of the tests on its way: each of them was passed; and the laws of one answer after another. Assumes nothing.
 use mathlib.Core.Path.{◌≡◌, refl}
 use mathlib.Core.Bool.{Bool, true, false}
-use mathlib.Core.Option.{Option, none, some}
+use Rattle.std.specs.Prelude.{Option, None, Some}
 use Prim.Native.Nat.{ℕ}
 use native.Mathlib.Omega.{arith}
 use Rattle.sheet.specs.Answers.{Answer, refused, accepted, require, and_then, require_some}
@@ -16,9 +16,9 @@ module _ {B : Type 0} (b : B) where
 
   -- what was there, and that what follows from it is accepted
   pub required_some : {A : Type 0} (n : ℕ) (o : Option A) (next : A → Answer B) → require_some n o next ≡ accepted b
-      → (a : A) × (o ≡ some a) × (next a ≡ accepted b)
-  required_some n none next e = absurd (refused-not-accepted n e)
-  required_some n (some a) next e = (a, refl, e)
+      → (a : A) × (o ≡ Some a) × (next a ≡ accepted b)
+  required_some n None next e = absurd (refused-not-accepted n e)
+  required_some n (Some a) next e = (a, refl, e)
 
 -- nothing follows
 pub and_then-accepted : {A : Type 0} (a : Answer A) → and_then a accepted ≡ a

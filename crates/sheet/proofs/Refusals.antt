@@ -1,7 +1,7 @@
 -- Numbers that an answer never refuses with, by the tests on its way. Assumes nothing.
 use mathlib.Core.Path.{◌≡◌, ap}
 use mathlib.Core.Bool.{Bool, true, false}
-use mathlib.Core.Option.{Option, none, some}
+use Rattle.std.specs.Prelude.{Option, None, Some}
 use Prim.Native.Nat.{ℕ}
 use native.Mathlib.Omega.{arith}
 use Rattle.sheet.specs.Answers.{Answer, refused, accepted, NeverRefused, require, and_then, require_some}
@@ -19,8 +19,8 @@ module _ {B : Type 0} (k : ℕ) where
 
   module _ {A : Type 0} where
     pub never-require_some : (n : ℕ) (o : Option A) (next : A → Answer B) → (n ≡ k → ⊥) → ((a : A) → NeverRefused k (next a)) → NeverRefused k (require_some n o next)
-    never-require_some n none next other b = never-refused n other
-    never-require_some n (some a) next other b = b a
+    never-require_some n None next other b = never-refused n other
+    never-require_some n (Some a) next other b = b a
 
     pub never-and_then : (a : Answer A) (next : A → Answer B) → NeverRefused k a → ((x : A) → NeverRefused k (next x)) → NeverRefused k (and_then a next)
     never-and_then (refused n) next first b = never-refused n (λ same. first.never (ap refused same))

@@ -1,7 +1,6 @@
 -- What an entry answers: the number of a reason to turn its input down, or a result (document 01, "Reasons to turn a sheet down, in
 -- checking order"). Assumes nothing: these are definitions.
-use Rattle.std.specs.Prelude.{◌≡◌, Bool, cond, ℕ}
-use Rattle.std.proofs.Math.Option.{Option, none, some}
+use Rattle.std.specs.Prelude.{◌≡◌, Bool, cond, ℕ, Option, None, Some}
 
 -- "The answer is the number and nothing else", or what the entry gives where nothing is turned down
 pub data Answer (A : Type 0) : Type 0 where
@@ -23,6 +22,11 @@ module _ {A : Type 0} where
   number_of (accepted result) = 0
 
 module _ {A B : Type 0} where
+  -- what is made of a result that is accepted; a refusal stays
+  abbrev pub map_answer : (A → B) → Answer A → Answer B
+  map_answer made (refused number) = refused number
+  map_answer made (accepted result) = accepted (made result)
+
   -- one answer after another: the first refusal, or what follows from the result
   abbrev pub and_then : Answer A → (A → Answer B) → Answer B
   and_then (refused number) next = refused number
@@ -30,8 +34,8 @@ module _ {A B : Type 0} where
 
   -- refusal n where there is nothing, else what follows from it
   abbrev pub require_some : ℕ → Option A → (A → Answer B) → Answer B
-  require_some n none next = refused n
-  require_some n (some a) next = next a
+  require_some n None next = refused n
+  require_some n (Some a) next = next a
 
   -- what a lent place holds afterwards: "a lent buffer keeps all its bytes" on a refusal; else what the result makes of the old content
   abbrev pub after : (A → B → B) → Answer A → B → B

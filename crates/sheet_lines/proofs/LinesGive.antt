@@ -1,7 +1,7 @@
 -- What the lines between the first line and the line `(end)` give, by the test of the code. Assumes nothing.
 use mathlib.Core.Path.{◌≡◌, refl, sym, ap, ◌∙◌}
 use mathlib.Core.List.{List}
-use mathlib.Core.Option.{Option, none, some}
+use Rattle.std.specs.Prelude.{Option, None, Some}
 use mathlib.Core.Bool.{true, false, true≢false, false≢true}
 use Prim.Native.Nat.{ℕ}
 use Rattle.lists.specs.Lists.{all}
@@ -26,19 +26,19 @@ pub record Gives (s : List ℕ) (c : Cursor) (r : Body) (b : grammar.Body) (ts :
 
 module _ (s : List ℕ) (c : Cursor) (r : Body) where
   -- where the test says so, the lines were missed, or they were read
-  pub unread-missed : (o : Option (grammar.Body × List Token)) → r ≡ body_from s c o → r.read ≡ false → o ≡ none
+  pub unread-missed : (o : Option (grammar.Body × List Token)) → r ≡ body_from s c o → r.read ≡ false → o ≡ None
   unfolding answer_from
-  unread-missed none told e = refl
-  unread-missed (some (b, ts)) told e = absurd (true≢false (sym (ap (λ l. l.read) told) ∙ e))
+  unread-missed None told e = refl
+  unread-missed (Some (b, ts)) told e = absurd (true≢false (sym (ap (λ l. l.read) told) ∙ e))
 
   pub record Read (o : Option (grammar.Body × List Token)) : Type 0 where
     pub lines : grammar.Body
     pub behind : List Token
-    pub are : o ≡ some (lines, behind)
+    pub are : o ≡ Some (lines, behind)
     pub gives : Gives s c r lines behind
 
   pub is-read-gives : (o : Option (grammar.Body × List Token)) → LeavesEnd (λ q. q.1) (tokens_at s c) o → r ≡ body_from s c o → r.read ≡ true → Read o
   unfolding answer_from
-  is-read-gives none last told e = absurd (false≢true (sym (ap (λ b. b.read) told) ∙ e))
-  is-read-gives (some (b, ts)) last told e =
+  is-read-gives None last told e = absurd (false≢true (sym (ap (λ b. b.read) told) ∙ e))
+  is-read-gives (Some (b, ts)) last told e =
       record { lines = b; behind = ts; are = refl; gives = rw told (record { tested = refl; filled = refl; leaves = place-leaves last }) }

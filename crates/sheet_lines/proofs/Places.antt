@@ -1,7 +1,7 @@
 -- What the readers of a sheet's lines have read, where they have read something, and the place that they answer. Assumes nothing.
 use mathlib.Core.Path.{◌≡◌, refl}
 use mathlib.Core.List.{List}
-use mathlib.Core.Option.{Option, none, some}
+use Rattle.std.specs.Prelude.{Option, None, Some}
 use Prim.Native.Nat.{ℕ}
 use native.Mathlib.Omega.{arith}
 use Rattle.tokens.specs.Tokens.{Token}
@@ -18,21 +18,21 @@ use Rattle.sheet_lines.proofs.Suffixes.{head-leaves}
 
 module _ (s : List ℕ) (c : Cursor) where
   -- the head is missed, or it is read
-  head-none : (o : Option (ℕ × ℕ × List Token)) {r : heads.Head} → r ≡ head_from s c o → r ≡ heads.TheVariants.Missed → o ≡ none
+  head-none : (o : Option (ℕ × ℕ × List Token)) {r : heads.Head} → r ≡ head_from s c o → r ≡ heads.TheVariants.Missed → o ≡ None
   unfolding head_from
-  head-none none told e = refl
-  head-none (some q) told e = cc
+  head-none None told e = refl
+  head-none (Some q) told e = cc
 
   head-to : (o : Option (ℕ × ℕ × List Token)) {r : heads.Head} {agents items : ℕ} {c' : Cursor} → LeavesEnd (λ q. q.2) (tokens_at s c) o → r ≡ head_from s c o
       → r ≡ heads.TheVariants.Counts agents items c' → ReadTo s c o (λ ts. (agents, items, ts)) c'
   unfolding head_from
-  head-to none last told e = let z : ◌≡◌ {A = ℕ} 0 1 = cc in absurd (omega arith)
-  head-to (some (m, n, ts)) {agents = agents} {items = items} last told e =
+  head-to None last told e = let z : ◌≡◌ {A = ℕ} 0 1 = cc in absurd (omega arith)
+  head-to (Some (m, n, ts)) {agents = agents} {items = items} last told e =
       let same : m ≡ agents = cc in
       let same-items : n ≡ items = cc in
       rw (same, same-items) (read-to (λ us. (agents, items, us)) last (cc))
 
-  pub head-missed : {r : heads.Head} → r ≡ head_from s c (head (tokens_at s c)) → r ≡ heads.TheVariants.Missed → head (tokens_at s c) ≡ none
+  pub head-missed : {r : heads.Head} → r ≡ head_from s c (head (tokens_at s c)) → r ≡ heads.TheVariants.Missed → head (tokens_at s c) ≡ None
   head-missed told e = head-none (head (tokens_at s c)) told e
 
   pub head_read : {r : heads.Head} {agents items : ℕ} {c' : Cursor} → r ≡ head_from s c (head (tokens_at s c)) → r ≡ heads.TheVariants.Counts agents items c'

@@ -1,7 +1,7 @@
 -- How many marks a yard line has, and how many lines there are. Assumes nothing.
 use mathlib.Core.Path.{◌≡◌}
 use mathlib.Core.List.{List}
-use mathlib.Core.Option.{some}
+use Rattle.std.specs.Prelude.{Some}
 use Prim.Native.Nat.{ℕ}
 use lib.ListN.{length}
 use Rattle.lists.proofs.members.Each.{AllOfLength}
@@ -31,6 +31,6 @@ module _ (digits : ℕ) where
   body-shape agents items ts =
       then-holds _ (λ r. (length r.0 ≡ agents) × AllOfLength items r.0) (yard_lines digits agents items ts) _ (yard-lines-shape agents items ts) (λ r shape. shape)
 
-  pub lines-shape : (agents items : ℕ) (ts : List Token) (lines : Body) (last : List Token) → body digits agents items ts ≡ some (lines, last)
+  pub lines-shape : (agents items : ℕ) (ts : List Token) (lines : Body) (last : List Token) → body digits agents items ts ≡ Some (lines, last)
       → (length lines.rows ≡ agents) × AllOfLength items lines.rows
   lines-shape agents items ts lines last e = rw e at (body-shape agents items ts)

@@ -1,6 +1,5 @@
 -- The lines of a sheet as forms of tokens and numbers (document 01, "The sheet"). Assumes nothing: these are definitions.
-use Rattle.std.specs.Prelude.{ℕ, List, Bool, true, cond}
-use Rattle.std.proofs.Math.Option.{Option, none, some}
+use Rattle.std.specs.Prelude.{ℕ, List, Bool, true, cond, Option, None, Some}
 use Rattle.sheet.specs.Limits.{count_digits}
 use Rattle.tokens.specs.Tokens.{Token}
 use Rattle.lexing.specs.Forms.{◌>>=◌, follow, form, in_turn}
@@ -13,7 +12,7 @@ head ts₀ = do
   (agents, ts₁) ← number_after (form before_agents) count_digits ts₀
   (items, ts₂) ← number_after (form before_items) count_digits ts₁
   ts₃ ← follow (form line_end) ts₂
-  some (agents, items, ts₃)
+  Some (agents, items, ts₃)
 
 -- "one mark for each piece", each in one to so many digits
 abbrev pub marks : ℕ → ℕ → List Token → Option (List ℕ × List Token)
@@ -31,7 +30,7 @@ yard_line digits items turn ts₀ = do
   ts₁ ← yard_turn turn ts₀
   (row, ts₂) ← marks digits items ts₁
   ts₃ ← follow (form line_end) ts₂
-  some (row, ts₃)
+  Some (row, ts₃)
 
 -- "Then comes one line a yard, from yard 1 upward"
 abbrev pub yard_lines : (digits agents items : ℕ) → List Token → Option (List (List ℕ) × List Token)
@@ -45,7 +44,7 @@ pub record Body : Type 0 where
 unfoldable pub body : (digits agents items : ℕ) → List Token → Option (Body × List Token)
 body digits agents items ts₀ = do
   (rows, ts₁) ← yard_lines digits agents items ts₀
-  some (record { rows = rows }, ts₁)
+  Some (record { rows = rows }, ts₁)
 
 -- what may stand behind the line `(end)` of a sheet that another text follows: anything
 abbrev pub anything : List Token → Bool
@@ -55,4 +54,4 @@ anything ts = true
 unfoldable pub end_line : (List Token → Bool) → List Token → Option (List Token)
 end_line may_follow ts₀ = do
   ts₁ ← follow (form last_line) ts₀
-  cond (may_follow ts₁) (some ts₁) none
+  cond (may_follow ts₁) (Some ts₁) None

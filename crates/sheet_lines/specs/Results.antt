@@ -1,7 +1,6 @@
 -- What the readers answer for what the grammar reads from the tokens at a place: nothing, or what is read, and the place just behind it.
 -- Assumes nothing: these are definitions.
-use Rattle.std.specs.Prelude.{List, true, false, ℕ}
-use Rattle.std.proofs.Math.Option.{Option, none, some}
+use Rattle.std.specs.Prelude.{List, true, false, ℕ, Option, None, Some}
 use Rattle.lists.specs.Lists.{all}
 use Rattle.sheet.specs.Limits.{greatest_mark}
 use Rattle.tokens.specs.Tokens.{Token}
@@ -17,8 +16,8 @@ use Rattle.sheet_lines.specs.declared.body.Body.{Body}
 
 -- the head
 unfoldable pub head_from : List ℕ → Cursor → Option (ℕ × ℕ × List Token) → head.Head
-head_from s c none = head.TheVariants.Missed
-head_from s c (some (agents, items, ts)) = head.TheVariants.Counts agents items (place_left s c ts)
+head_from s c None = head.TheVariants.Missed
+head_from s c (Some (agents, items, ts)) = head.TheVariants.Counts agents items (place_left s c ts)
 
 -- lines that are not as they should be give nothing
 abbrev pub unread_body : Body

@@ -2,7 +2,7 @@
 -- computation. Assumes nothing.
 use mathlib.Core.Path.{◌≡◌, refl}
 use mathlib.Core.List.{List, [], ◌∷◌, flat_map}
-use mathlib.Core.Option.{some}
+use Rattle.std.specs.Prelude.{Some}
 use Prim.Native.Nat.{ℕ}
 use lib.IntN.{ℤ, pos}
 use Rattle.sheet.specs.Answers.{accepted}
@@ -55,11 +55,11 @@ sheet-c-read : reading_front sheet_c_and_division ≡ accepted (contents_c, toke
 unfolding reading_front contents_of sheet.end_line sheet.body sheet.yard_line sheet.yard_turn sheet.head numbers.number_after numbers.number numbers.digits_after numbers.is_number forms.in_turn forms.follow on_first lines before_remark extended words line_tokens tokens flat_map
 sheet-c-read = refl
 
-division-c-read : division.division_text 3 4 (tokens division_c) ≡ some stated_c
+division-c-read : division.division_text 3 4 (tokens division_c) ≡ Some stated_c
 unfolding division.division_text division.division_head division.stated_amounts division.division_line division.bundle_in_turn division.bundle_after division.rising_items sheet.end_line numbers.number_after numbers.number numbers.digits_after numbers.is_number forms.in_turn forms.follow on_first lines before_remark extended words line_tokens tokens flat_map
 division-c-read = refl
 
-division-c-judged : judging contents_c (some stated_c) ≡ accepted margins_c
+division-c-judged : judging contents_c (Some stated_c) ≡ accepted margins_c
 unfolding judging_by sharing shares_covered bundles_and_cuts of_sheet each_in_one figures_true line_true grade envy_free proportional maximin_fair profile maximin_share maximin_partition terms_for largest_odd margin
 division-c-judged = refl
 

@@ -3,7 +3,7 @@ use mathlib.Core.Path.{◌≡◌, refl, sym, ap, ap₂, ◌∙◌}
 use mathlib.Core.List.Memᴰ.{head as here}
 use mathlib.Core.List.Memᴰ.{tail as there}
 use mathlib.Core.List.{List, [], ◌∷◌, map, map-map, Memᴰ as Mem}
-use mathlib.Core.Option.{Option, none, some}
+use Rattle.std.specs.Prelude.{Option, None, Some}
 use Prim.Native.Nat.{ℕ, ◌≤◌}
 use lib.ListN.{length, take, length-map}
 use Rattle.lists.specs.Lists.{padded}
@@ -38,16 +38,16 @@ module _ (n m : ℕ) (few_items : m ≤ most_items) where
         ∙ items-of-bundles m few_items l.cut (shape.cut_bundle l ml) in
         ap₂ (λ b c. record { bundle = b; worth = l.worth; share = l.share; cut = c }) (items-of-bundle m few_items (shape.bundle l ml)) cut
 
-    kept_back : stated_in n (kept (some d)) ≡ some d
+    kept_back : stated_in n (kept (Some d)) ≡ Some d
     kept_back =
-        let lines : map (stated_line n) (take n (kept (some d)).lines) ≡ d.lines =
+        let lines : map (stated_line n) (take n (kept (Some d)).lines) ≡ d.lines =
         ap (map (stated_line n)) (take-of-padded most_agents n blank_line (map kept_line d.lines) (length-map d.lines kept_line ∙ shape.line_each))
         ∙ lines-back n d.lines line-back in
-        ap (λ ls. some (record { grade = d.grade; lines = ls })) lines
+        ap (λ ls. Some (record { grade = d.grade; lines = ls })) lines
 
   read_back : (ts : List Token) (o : Option Stated) → division_text n m ts ≡ o → stated_in n (kept o) ≡ o
-  read_back ts none e = refl
-  read_back ts (some d) e = kept_back d (division-shape n m ts d e)
+  read_back ts None e = refl
+  read_back ts (Some d) e = kept_back d (division-shape n m ts d e)
 
   pub stated-kept : n ≤ most_agents → (ts : List Token) → stated_in n (kept (reading_division n m ts)) ≡ division_text n m ts
   stated-kept few ts = ap (λ o. stated_in n (kept o)) (reading_division-text n m ts few few_items) ∙ read_back ts (division_text n m ts) refl

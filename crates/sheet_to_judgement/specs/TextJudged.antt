@@ -1,6 +1,5 @@
 -- What a text with a sheet and a division, and a lent buffer, are answered (document 02, order 5). Assumes nothing: these are definitions.
-use Rattle.std.specs.Prelude.{◌≡◌, List, ℕ, ℤ}
-use Rattle.std.proofs.Math.Option.{some}
+use Rattle.std.specs.Prelude.{◌≡◌, List, ℕ, ℤ, Some}
 use Rattle.sheet.specs.Answers.{Answer, accepted, and_then}
 use Rattle.sheet.specs.Contents.{Contents}
 use Rattle.tokens.specs.Tokens.{Token}
@@ -30,7 +29,7 @@ judgement_from text room = and_then (text_judged text) (λ margins. filling room
 pub record States (text : List ℕ) (sheet : Contents) (d : Stated) : Type 0 where
   pub behind : List Token
   pub sheet_read : reading_front text ≡ accepted (sheet, behind)
-  pub division_read : division_text sheet.agents sheet.items behind ≡ some d
+  pub division_read : division_text sheet.agents sheet.items behind ≡ Some d
 
 -- "It is accepted exactly if all it states is true": a text with a sheet and a division, all of which is true, and the margins of its bundles
 pub record TrueText (text : List ℕ) (margins : List ℤ) : Type 0 where

@@ -1,7 +1,7 @@
 -- Every division in the printed layout is read (document 02, order 5), so that the grammar of divisions leaves out none: where a division has
 -- the shape of what is read, and its figures have at most so many digits, its text is read back to just what it states. Assumes nothing.
 use mathlib.Core.Path.{◌≡◌, ap, ◌∙◌}
-use mathlib.Core.Option.{some}
+use Rattle.std.specs.Prelude.{Some}
 use Prim.Native.Nat.{ℕ, ◌≤◌}
 use Rattle.sheet.specs.Limits.{most_agents, most_items}
 use Rattle.tokens.specs.Tokens.{tokens}
@@ -14,7 +14,7 @@ use Rattle.stated_text.proofs.Lines.{line-mem, line-bundle, line-cut-each, line-
 use Rattle.stated_text.proofs.Lexed.{tokens-stated_text}
 use Rattle.stated_text.proofs.TokensRead.{division_text-division_tokens}
 
-pub stated_text-reads-back : (n m : ℕ) (d : Stated) → n ≤ most_agents → m ≤ most_items → WellFormed n m d → FewDigits d → division_text n m (tokens (stated_text n m d)) ≡ some d
+pub stated_text-reads-back : (n m : ℕ) (d : Stated) → n ≤ most_agents → m ≤ most_items → WellFormed n m d → FewDigits d → division_text n m (tokens (stated_text n m d)) ≡ Some d
 stated_text-reads-back n m d few few_items shape small =
     ap (division_text n m) (tokens-stated_text n m d)
     ∙ division_text-division_tokens n m few few_items d shape.line_each small.grade_below

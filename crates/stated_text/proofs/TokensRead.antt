@@ -4,7 +4,7 @@ use mathlib.Core.List.Memᴰ.{head as here}
 use mathlib.Core.List.Memᴰ.{tail as there}
 use mathlib.Core.List.{List, [], ◌∷◌, ◌++◌, map, flat_map, append_assoc, append-nil, Memᴰ as Mem}
 use mathlib.Core.List.{Sublistᴰ as Sublist}
-use mathlib.Core.Option.{some}
+use Rattle.std.specs.Prelude.{Some}
 use mathlib.Core.Bool.{false}
 use Prim.Native.Nat.{ℕ, ◌+◌, ◌^◌, ◌≤◌, ◌<◌}
 use Prim.Native.String.{String}
@@ -41,15 +41,15 @@ unfolding is_number
 closing-no-number = refl
 
 -- the line `(end)`, with nothing behind it
-end_line-form : end_line ended (form last_line) ≡ some []
+end_line-form : end_line ended (form last_line) ≡ Some []
 unfolding end_line
 end_line-form =
-    let followed : follow (form last_line) (form last_line) ≡ some [] = rw (append-nil (form last_line)) at (follow-append (form last_line) []) in
+    let followed : follow (form last_line) (form last_line) ≡ Some [] = rw (append-nil (form last_line)) at (follow-append (form last_line) []) in
     rw followed
 
 -- rising items of the sheet, up to that bracket
 rising_items-decimals : (items above : ℕ) (ks : List ℕ) (ts : List Token) → items < 10 ^ count_digits → Rising ks → ((k : ℕ) → Mem k ks → (above < k) × (k ≤ items))
-    → rising_items items above (map decimal ks ++ (form pile_end ++ ts)) ≡ some (ks, form pile_end ++ ts)
+    → rising_items items above (map decimal ks ++ (form pile_end ++ ts)) ≡ Some (ks, form pile_end ++ ts)
 unfolding rising_items
 rising_items-decimals items above [] ts few rising each = rw (closing-form, closing-no-number)
 rising_items-decimals items above (k ∷ ks) ts few rising each =
@@ -59,7 +59,7 @@ rising_items-decimals items above (k ∷ ks) ts few rising each =
 
 module _ (items : ℕ) (few_items : items ≤ most_items) where
   bundle_after-bundle_tokens : (before : String) {bundle : List ℕ} (ts : List Token) → Sublist bundle (range 1 items)
-      → bundle_after (form before) items (bundle_tokens before bundle ++ ts) ≡ some (bundle, ts)
+      → bundle_after (form before) items (bundle_tokens before bundle ++ ts) ≡ Some (bundle, ts)
   unfolding bundle_after bundle_tokens
   bundle_after-bundle_tokens before {bundle} ts s =
       let each : (k : ℕ) → Mem k bundle → (0 < k) × (k ≤ items) = λ k m. let b = range-bounds 1 items (sublist-mem s m) in omega arith in
@@ -67,20 +67,20 @@ module _ (items : ℕ) (few_items : items ≤ most_items) where
       simp append_assoc (rw (follow-append (form before) _, rising, follow-append (form pile_end) ts))
 
   bundle_in_turn-tokens : (turn : ℕ) {bundle : List ℕ} (ts : List Token) → turn < 10 ^ count_digits → Sublist bundle (range 1 items)
-      → bundle_in_turn items turn (form before_turn ++ decimal turn ∷ (bundle_tokens before_pile bundle ++ ts)) ≡ some (bundle, ts)
+      → bundle_in_turn items turn (form before_turn ++ decimal turn ∷ (bundle_tokens before_pile bundle ++ ts)) ≡ Some (bundle, ts)
   unfolding bundle_in_turn
   bundle_in_turn-tokens turn ts h s = rw (follow_number-decimal count_digits turn (omega arith) h (form before_turn)) (bundle_after-bundle_tokens before_pile ts s)
 
   -- the bundles of a cut, one after another
   cut_bundles-cut_tokens : (turn : ℕ) (cut : List (List ℕ)) (ts : List Token) → ((b : List ℕ) → Mem b cut → Sublist b (range 1 items))
-      → in_turn (λ number. bundle_after (form before_cut_pile) items) turn (length cut) (cut_tokens cut ++ ts) ≡ some (cut, ts)
+      → in_turn (λ number. bundle_after (form before_cut_pile) items) turn (length cut) (cut_tokens cut ++ ts) ≡ Some (cut, ts)
   unfolding in_turn cut_tokens flat_map
   cut_bundles-cut_tokens turn [] ts s = refl
   cut_bundles-cut_tokens turn (b ∷ cut) ts s =
       simp append_assoc (rw (bundle_after-bundle_tokens before_cut_pile _ (s b (here refl)), cut_bundles-cut_tokens (turn + 1) cut ts (λ c m. s c (there m))))
 
 stated_amounts-amounts_tokens : (worth share : ℕ) (ts : List Token) → worth < 10 ^ sum_digits → share < 10 ^ sum_digits
-    → stated_amounts (amounts_tokens worth share ++ ts) ≡ some (worth, share, ts)
+    → stated_amounts (amounts_tokens worth share ++ ts) ≡ Some (worth, share, ts)
 unfolding stated_amounts amounts_tokens
 stated_amounts-amounts_tokens worth share ts small small-share =
     simp append_assoc
@@ -96,15 +96,15 @@ pub record ReadableLine (agents items : ℕ) (l : StatedLine) : Type 0 where
 
 module _ (agents items : ℕ) (few : agents ≤ most_agents) (few_items : items ≤ most_items) where
   division_line-division_line_tokens : (turn : ℕ) {l : StatedLine} (ts : List Token) → turn < 10 ^ count_digits → ReadableLine agents items l
-      → division_line agents items turn (division_line_tokens turn l ++ ts) ≡ some (l, ts)
+      → division_line agents items turn (division_line_tokens turn l ++ ts) ≡ Some (l, ts)
   unfolding division_line division_line_tokens
   division_line-division_line_tokens turn {l} ts h p =
-      let cut-read : (us : List Token) → cut_bundles agents items (cut_tokens l.cut ++ us) ≡ some (l.cut, us) =
+      let cut-read : (us : List Token) → cut_bundles agents items (cut_tokens l.cut ++ us) ≡ Some (l.cut, us) =
       λ us. rw p.cut_each at (cut_bundles-cut_tokens items few_items 1 l.cut us p.cut_of_items) in
       simp append_assoc
       (rw (bundle_in_turn-tokens items few_items turn _ h p.of_items, stated_amounts-amounts_tokens l.worth l.share _ p.worth_small p.share_small, cut-read _, follow-append (form line_end) ts))
 
-  division_head-head_tokens : (grade : ℕ) (ts : List Token) → grade < 10 ^ grade_digits → division_head agents items (head_tokens agents items grade ++ ts) ≡ some (grade, ts)
+  division_head-head_tokens : (grade : ℕ) (ts : List Token) → grade < 10 ^ grade_digits → division_head agents items (head_tokens agents items grade ++ ts) ≡ Some (grade, ts)
   unfolding division_head head_tokens
   division_head-head_tokens grade ts small =
       simp append_assoc
@@ -112,7 +112,7 @@ module _ (agents items : ℕ) (few : agents ≤ most_agents) (few_items : items 
 
   -- a division of such lines, one for each agent
   pub division_text-division_tokens : (d : Stated) → length d.lines ≡ agents → d.grade < 10 ^ grade_digits
-      → ((i : ℕ) → Mem i (range 1 agents) → ReadableLine agents items (line_of d i)) → division_text agents items (division_tokens agents items d) ≡ some d
+      → ((i : ℕ) → Mem i (range 1 agents) → ReadableLine agents items (line_of d i)) → division_text agents items (division_tokens agents items d) ≡ Some d
   unfolding division_text division_tokens
   division_text-division_tokens d line_each small readable =
       let lines-read =

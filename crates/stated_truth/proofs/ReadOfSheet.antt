@@ -4,7 +4,7 @@ use mathlib.Core.Path.{◌≡◌, subst, ◌∙◌}
 use mathlib.Core.Bool.{true}
 use mathlib.Core.List.Memᴰ
 use mathlib.Core.List.{List, Memᴰ as Mem}
-use mathlib.Core.Option.{some}
+use Rattle.std.specs.Prelude.{Some}
 use Prim.Native.Nat.{ℕ}
 use native.Mathlib.Omega.{arith}
 use lib.ListN.{length, length-map}
@@ -36,5 +36,5 @@ module _ (n m : ℕ) where
       (λ b mb. let (l, ml, e) = Memᴰ.of_map (λ l. l.bundle) d.lines mb in subst (IsBundle m) e (shape.bundle l ml)) in
       rw bundles (mem-all (λ l. of_sheet n m l.cut) d.lines (λ l ml. of-sheet l.cut (shape.cut_each l ml) (shape.cut_bundle l ml)))
 
-  pub read-of-sheet : (ts : List Token) (d : Stated) → division_text n m ts ≡ some d → bundles_and_cuts (of_sheet n m) d ≡ true
+  pub read-of-sheet : (ts : List Token) (d : Stated) → division_text n m ts ≡ Some d → bundles_and_cuts (of_sheet n m) d ≡ true
   read-of-sheet ts d read = well-formed-of-sheet d (division-shape n m ts d read)

@@ -2,7 +2,7 @@
 use mathlib.Core.Path.{◌≡◌, refl}
 use mathlib.Core.Bool.{true}
 use mathlib.Core.List.{List, [], ◌∷◌, map}
-use mathlib.Core.Option.{Option, none, some}
+use Rattle.std.specs.Prelude.{Option, None, Some}
 use Prim.Native.Nat.{ℕ}
 use lib.IntN.{ℤ, pos}
 use Rattle.sheet.specs.Tables.{profile}
@@ -36,7 +36,7 @@ line bundle worth share cut = record { bundle = bundle; worth = worth; share = s
 -- the grade, and the line of agent 1; the others are as they are
 abbrev divided : ℕ → StatedLine → Option Stated
 divided grade first =
-    some (record {
+    Some (record {
       grade = grade;
       lines = first ∷ line (3 ∷ []) 3 4 last_together ∷ line (4 ∷ []) 1 1 first_together ∷ [];
     })
@@ -55,7 +55,7 @@ samples =
     -- "A cut may be any that reaches the share"
     ∷ record { stated = divided 4 (line (1 ∷ 2 ∷ []) 2 1 last_together); answer = accepted margins }
     -- nothing is read; a piece not on the sheet is named, in the division and in a cut; the cut has another count of bundles
-    ∷ record { stated = none; answer = refused 11 }
+    ∷ record { stated = None; answer = refused 11 }
     ∷ record { stated = divided 4 (line (1 ∷ 2 ∷ 5 ∷ []) 2 1 first_together); answer = refused 11 }
     ∷ record { stated = divided 4 (line (1 ∷ 2 ∷ []) 2 1 ((1 ∷ 2 ∷ []) ∷ (3 ∷ []) ∷ (4 ∷ 5 ∷ []) ∷ [])); answer = refused 11 }
     ∷ record { stated = divided 4 (line (1 ∷ 2 ∷ []) 2 1 ((1 ∷ 2 ∷ []) ∷ (3 ∷ 4 ∷ []) ∷ [])); answer = refused 11 }

@@ -4,7 +4,7 @@ use mathlib.Core.Path.{◌≡◌, refl, sym, ap, ◌∙◌}
 use mathlib.Core.Bool.{Bool, true, false, cond, ◌&&◌, and-eq-true_iff}
 use mathlib.Core.Logic.{◌↔◌, ⊎_elim}
 use mathlib.Core.List.{List, Memᴰ as Mem}
-use mathlib.Core.Option.{Option, none, some}
+use Rattle.std.specs.Prelude.{Option, None, Some}
 use Prim.Native.Nat.{ℕ, ◌≤◌}
 use native.Mathlib.Omega.{arith}
 use lib.Dec.{eqb, leb}
@@ -149,7 +149,7 @@ module _ (sheet : Contents) (terms : Terms) (handed : stated.Stated) (margins : 
   abbrev division : Stated
   division = stated_of sheet.agents handed.grade handed.lines
 
-  was_read : (read : Bool) (d : Stated) → cond read (some division) none ≡ some d → (read ≡ true) × (division ≡ d)
+  was_read : (read : Bool) (d : Stated) → cond read (Some division) None ≡ Some d → (read ≡ true) × (division ≡ d)
   was_read true d e = (refl, cc)
   was_read false d e = let z : ◌≡◌ {A = ℕ} 0 1 = cc in absurd (omega arith)
 

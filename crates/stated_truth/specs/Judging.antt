@@ -1,7 +1,6 @@
 -- What judging a division of a sheet answers: the number of a refusal, or the margins (document 02, order 5). Assumes nothing: these are
 -- definitions.
-use Rattle.std.specs.Prelude.{◌≡◌, List, ℤ}
-use Rattle.std.proofs.Math.Option.{Option, some}
+use Rattle.std.specs.Prelude.{◌≡◌, List, ℤ, Option, Some}
 use Rattle.sheet.specs.Limits.{CountsWithin}
 use Rattle.sheet.specs.Contents.{Contents}
 use Rattle.sheet.specs.Answers.{Answer, accepted, require, require_some, and_then}
@@ -33,7 +32,7 @@ module _ (sheet : Contents) (terms : Terms) where
   pub record TrueDivision (stated : Option Stated) (margins : List ℤ) : Type 0 where
     pub counts : CountsWithin sheet.agents sheet.items
     pub division : Stated
-    pub was_read : stated ≡ some division
+    pub was_read : stated ≡ Some division
     pub all_true : AllTrue sheet terms division
     pub margins_given : margins ≡ margins_by_terms sheet terms (bundles_of division)
 

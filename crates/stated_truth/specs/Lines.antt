@@ -1,6 +1,5 @@
 -- A division as the code has it, its lines in six places, and what it states. Assumes nothing: these are definitions.
-use Rattle.std.specs.Prelude.{Bool, cond, ◌&&◌, List, [], map, ℕ, eqb, leb, take}
-use Rattle.std.proofs.Math.Option.{Option, none, some}
+use Rattle.std.specs.Prelude.{Bool, cond, ◌&&◌, List, [], map, ℕ, eqb, leb, take, Option, None, Some}
 use Rattle.lists.specs.Lists.{range, nth, all}
 use Rattle.lists.specs.Sums.{least_of}
 use Rattle.sheet.specs.Sets.{items_of}
@@ -24,7 +23,7 @@ stated_of n grade lines = record { grade = grade; lines = map (stated_line n) (t
 
 -- what is stated of n agents, where it was read
 abbrev pub stated_in : ℕ → stated.Stated → Option Stated
-stated_in n d = cond d.read (some (stated_of n d.grade d.lines)) none
+stated_in n d = cond d.read (Some (stated_of n d.grade d.lines)) None
 
 module _ (n : ℕ) (test : List (List ℕ) → Bool) where
   -- whether the bundles of the cut pass a test, in each line

@@ -1,7 +1,7 @@
 -- The marks in use of a table, the lengths of its rows, and its lines one behind the other. Assumes nothing.
 use mathlib.Core.Path.{◌≡◌, refl, sym, ap, ap₂, ◌∙◌}
 use mathlib.Core.List.{List, [], ◌∷◌, ◌++◌, map, map-append, append-nil, append_assoc}
-use mathlib.Core.Option.{some}
+use Rattle.std.specs.Prelude.{Some}
 use Prim.Native.Nat.{ℕ, ◌+◌, ◌-◌, ◌≤◌, ◌<◌}
 use native.Mathlib.Numerals.{add-one}
 use native.Mathlib.Omega.{arith}
@@ -72,7 +72,7 @@ yard_texts-next items table i more =
     ∙ ap (λ k. yard_texts 1 (rows_in_use i items table) ++ yard_text (k + 1) (take items (get_or table i []))) rows
 
 -- the lines of what lines carry are these lines
-pub lines-carried : (limits : MarkLimits) (agents items : ℕ) (ts : List Token) (lines : Body) (last : List Token) (c : Contents) → body limits.digits agents items ts ≡ some (lines, last)
+pub lines-carried : (limits : MarkLimits) (agents items : ℕ) (ts : List Token) (lines : Body) (last : List Token) (c : Contents) → body limits.digits agents items ts ≡ Some (lines, last)
     → contents_of limits agents items lines ≡ accepted c → lines_of c ≡ lines
 lines-carried limits agents items ts lines last c are carries =
     let shape = lines-shape limits.digits agents items ts lines last are in

@@ -1,7 +1,7 @@
 -- The tokens of a sheet's lines are read to what they were made of, for each reader of the grammar. Assumes nothing.
 use mathlib.Core.Path.{◌≡◌, refl}
 use mathlib.Core.List.{List, [], ◌∷◌, ◌++◌, map, append_assoc}
-use mathlib.Core.Option.{some}
+use Rattle.std.specs.Prelude.{Some}
 use mathlib.Core.Bool.{true, and-eq-true_iff}
 use Prim.Native.Nat.{ℕ, ◌+◌, ◌^◌, ◌<◌, ◌≤◌}
 use native.Mathlib.Omega.{arith}
@@ -21,12 +21,12 @@ use Rattle.strict_text.proofs.SheetTokens.{head_tokens, turn_tokens, yard_tokens
 use Rattle.lexing.proofs.readers.ReadBack.{follow-append, number-decimal, number_after-decimal, follow_number-decimal}
 
 pub head-head_tokens : (agents items : ℕ) (ts : List Token) → agents < 10 ^ count_digits → items < 10 ^ count_digits
-    → head (head_tokens agents items ++ ts) ≡ some (agents, items, ts)
+    → head (head_tokens agents items ++ ts) ≡ Some (agents, items, ts)
 unfolding head head_tokens
 head-head_tokens agents items ts h l = simp append_assoc (rw (number_after-decimal count_digits agents (omega arith) h (form before_agents), number_after-decimal count_digits items (omega arith) l (form before_items), follow-append (form line_end) ts))
 
 marks-decimals : (turn : ℕ) (row : List ℕ) (ts : List Token) → allowed_row greatest_mark row ≡ true
-    → in_turn (λ piece. number mark_digits) turn (length row) (map decimal row ++ ts) ≡ some (row, ts)
+    → in_turn (λ piece. number mark_digits) turn (length row) (map decimal row ++ ts) ≡ Some (row, ts)
 unfolding in_turn
 marks-decimals turn [] ts f = refl
 marks-decimals turn (m ∷ ms) ts f =
@@ -34,17 +34,17 @@ marks-decimals turn (m ∷ ms) ts f =
     let small = leb-true m greatest_mark both.0 in
     rw (number-decimal mark_digits m (omega arith) (omega arith) (map decimal ms ++ ts), marks-decimals (turn + 1) ms ts both.1)
 
-yard_turn-turn_tokens : (turn : ℕ) (ts : List Token) → turn < 10 ^ count_digits → yard_turn turn (turn_tokens turn ++ ts) ≡ some ts
+yard_turn-turn_tokens : (turn : ℕ) (ts : List Token) → turn < 10 ^ count_digits → yard_turn turn (turn_tokens turn ++ ts) ≡ Some ts
 unfolding yard_turn turn_tokens
 yard_turn-turn_tokens turn ts h = simp append_assoc (rw (follow_number-decimal count_digits turn (omega arith) h (form before_turn), follow-append (form before_marks) ts))
 
 yard_line-yard_tokens : (turn : ℕ) (row : List ℕ) (ts : List Token) → turn < 10 ^ count_digits → allowed_row greatest_mark row ≡ true
-    → yard_line mark_digits (length row) turn (yard_tokens turn row ++ ts) ≡ some (row, ts)
+    → yard_line mark_digits (length row) turn (yard_tokens turn row ++ ts) ≡ Some (row, ts)
 unfolding yard_line yard_tokens
 yard_line-yard_tokens turn row ts h f = simp append_assoc (rw (yard_turn-turn_tokens turn _ h, marks-decimals 1 row _ f, follow-append (form line_end) ts))
 
 yard_lines-yards_tokens : (turn items : ℕ) (rows : List (List ℕ)) (ts : List Token) → turn + length rows ≤ 10 ^ count_digits → AllOfLength items rows
-    → all (allowed_row greatest_mark) rows ≡ true → in_turn (yard_line mark_digits items) turn (length rows) (yards_tokens turn rows ++ ts) ≡ some (rows, ts)
+    → all (allowed_row greatest_mark) rows ≡ true → in_turn (yard_line mark_digits items) turn (length rows) (yards_tokens turn rows ++ ts) ≡ Some (rows, ts)
 unfolding in_turn tokens_in_turn
 yard_lines-yards_tokens turn items [] ts h l f = refl
 yard_lines-yards_tokens turn items (row ∷ rows) ts h l f =
@@ -54,7 +54,7 @@ yard_lines-yards_tokens turn items (row ∷ rows) ts h l f =
 
 -- the lines of a sheet with these counts
 pub body-body_tokens : (agents items : ℕ) (lines : Body) (ts : List Token) → agents < 10 ^ count_digits → length lines.rows ≡ agents → AllOfLength items lines.rows
-    → all (allowed_row greatest_mark) lines.rows ≡ true → body mark_digits agents items (body_tokens lines ++ ts) ≡ some (lines, ts)
+    → all (allowed_row greatest_mark) lines.rows ≡ true → body mark_digits agents items (body_tokens lines ++ ts) ≡ Some (lines, ts)
 unfolding body body_tokens
 body-body_tokens agents items lines ts few n l f =
     rw (rw n at (yard_lines-yards_tokens 1 items lines.rows ts (omega (arith, n)) l f))

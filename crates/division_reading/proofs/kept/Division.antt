@@ -2,7 +2,7 @@
 use mathlib.Core.Path.{◌≡◌}
 use mathlib.Core.Bool.{and-false}
 use mathlib.Core.List.{List}
-use mathlib.Core.Option.{none}
+use Rattle.std.specs.Prelude.{None}
 use Prim.Native.Nat.{ℕ, ◌≤◌, ◌<◌}
 use lib.Dec.{leb}
 use borrow.Author.Tests.{le-leb, lt-leb}
@@ -11,11 +11,11 @@ use Rattle.tokens.specs.Tokens.{Token}
 use Rattle.division_reading.specs.Grammar.{division_text, reading_division}
 
 module _ (agents items : ℕ) (ts : List Token) where
-  pub too-many-agents : most_agents < agents → reading_division agents items ts ≡ none
+  pub too-many-agents : most_agents < agents → reading_division agents items ts ≡ None
   unfolding reading_division
   too-many-agents h = rw (lt-leb agents most_agents h)
 
-  pub too-many-items : most_items < items → reading_division agents items ts ≡ none
+  pub too-many-items : most_items < items → reading_division agents items ts ≡ None
   unfolding reading_division
   too-many-items h = rw (lt-leb items most_items h, and-false (leb agents most_agents))
 

@@ -1,6 +1,6 @@
 use mathlib.Core.Path.{◌≡◌, sym, ap, ◌∙◌}
 use mathlib.Core.Bool.{true}
-use mathlib.Core.Option.{some}
+use Rattle.std.specs.Prelude.{Some}
 use Prim.Native.Nat.{◌≤◌}
 use native.Mathlib.Omega.{arith}
 use borrow.Author.Tests.{not-true, not-false}
@@ -37,7 +37,7 @@ text-within c = reading_division-text _ _ _ (few-agents c) (few_items c)
 
 -- what each part says where it has been read
 head_read : (c : In-Value) → let a = c.args in
-    division_head a.agents a.items (tokens_at a.s.now a.c) ≡ some (c.in-Value.grade, tokens_at a.s.now c.in-Value.first)
+    division_head a.agents a.items (tokens_at a.s.now a.c) ≡ Some (c.in-Value.grade, tokens_at a.s.now c.in-Value.first)
 head_read c = (head-to _ _ _ _ c.read_head.ensures c.in-Value.is).read
 
 lines-read : (c : Else-not-read) → let a = c.args in
@@ -46,7 +46,7 @@ lines-read : (c : Else-not-read) → let a = c.args in
 lines-read c = told-read lines_tell _ _ _ (division_lines-leave _ _ _) c.division_lines-read.ensures (not-false c.division_lines-read.result.read c.if-not-read.false)
 
 text-ended : (c : In-At) → let s = c.args.s.now in
-    end_line ended (tokens_at s c.division_lines-read.result.next) ≡ some (tokens_at s c.in-At.field-0)
+    end_line ended (tokens_at s c.division_lines-read.result.next) ≡ Some (tokens_at s c.in-At.field-0)
 text-ended c = (followed-to _ _ _ (end_line-leaves _ _) c.end_line.ensures c.in-At.is).read
 
 pub returns-then-agents-gt-AGENTS : goal.returns-then-agents-gt-AGENTS

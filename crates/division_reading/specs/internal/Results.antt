@@ -1,7 +1,6 @@
 -- What the private functions answer for what the grammar reads from the tokens at a place: nothing, or what is kept of it, and the place
 -- just behind it. Assumes nothing: these are definitions.
-use Rattle.std.specs.Prelude.{List, true, false, ℕ}
-use Rattle.std.proofs.Math.Option.{Option}
+use Rattle.std.specs.Prelude.{List, true, false, ℕ, Option}
 use Rattle.lists.specs.Lists.{zeros}
 use Rattle.sheet.specs.Limits.{most_agents}
 use Rattle.tokens.specs.Tokens.{Token}

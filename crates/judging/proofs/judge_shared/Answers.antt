@@ -1,7 +1,7 @@
 use mathlib.Core.Path.{◌≡◌, refl, sym, ap, ap₂, ◌∙◌}
 use mathlib.Core.Bool.{Bool, true, false, cond, ◌&&◌, and-eq-true_iff}
 use mathlib.Core.List.{List, [], map, Memᴰ as Mem}
-use mathlib.Core.Option.{Option, none, some}
+use Rattle.std.specs.Prelude.{Option, None, Some}
 use Prim.Native.Nat.{ℕ, min}
 use native.Mathlib.Omega.{arith}
 use borrow.Author.Rules.{rules}
@@ -108,10 +108,10 @@ figures-told c =
 -- the answer on what is read, or on nothing
 answer-of : (c : After-figures_true-correct) (read : Bool)
     → c.args.stated.read ≡ read
-    → judging_by (sheet_in c) c.args.terms (stated_at c) ≡ require_some 11 (cond read (some (division c)) none) (judging_read (sheet_in c) c.args.terms)
+    → judging_by (sheet_in c) c.args.terms (stated_at c) ≡ require_some 11 (cond read (Some (division c)) None) (judging_read (sheet_in c) c.args.terms)
 answer-of c read e =
     judging-within (sheet_in c) c.args.terms (stated_at c) c.requires.0.counts
-    ∙ ap (λ read. require_some 11 (cond read (some (division c)) none) (judging_read (sheet_in c) c.args.terms)) e
+    ∙ ap (λ read. require_some 11 (cond read (Some (division c)) None) (judging_read (sheet_in c) c.args.terms)) e
 
 -- what is read, and whether it passes the second test of refusal 11
 both_told : (c : After-figures_true-correct) (laid_out : Bool) → laid_out ≡ c.args.stated.read && c.all_pass-named.result → laid_out ≡ c.args.stated.read && of_this_sheet c

@@ -1,7 +1,7 @@
 -- One reader also reads what another reads: readers one after another, readings in turn, and numbers in more digits. Assumes nothing.
 use mathlib.Core.Path.{◌≡◌, refl}
 use mathlib.Core.List.{List}
-use mathlib.Core.Option.{Option, none, some}
+use Rattle.std.specs.Prelude.{Option, None, Some}
 use mathlib.Core.Bool.{Bool, true, false, cond}
 use Prim.Native.Nat.{ℕ, zero, suc, ◌+◌, ◌≤◌}
 use Rattle.tokens.specs.Tokens.{Token}
@@ -12,15 +12,15 @@ use Rattle.numerals.proofs.Digits.{is_number-wider}
 
 -- what o reads, if anything, is read by o' too
 abbrev pub AlsoReads : {A : Type 0} → Option A → Option A → Type 0
-AlsoReads o' o = Holds (λ a. o' ≡ some a) o
+AlsoReads o' o = Holds (λ a. o' ≡ Some a) o
 
 pub also-itself : {A : Type 0} (o : Option A) → AlsoReads o o
-also-itself none = tt
-also-itself (some a) = refl
+also-itself None = tt
+also-itself (Some a) = refl
 
 pub then-also : {A B : Type 0} (o' o : Option A) (f' f : A → Option B) → AlsoReads o' o → ((a : A) → AlsoReads (f' a) (f a)) → AlsoReads (o' >>= f') (o >>= f)
-then-also o' none f' f h k = tt
-then-also o' (some a) f' f h k = rw h (k a)
+then-also o' None f' f h k = tt
+then-also o' (Some a) f' f h k = rw h (k a)
 
 module _ {A : Type 0} (reader' reader : ℕ → List Token → Option (A × List Token)) (each : (turn : ℕ) (ts : List Token) → AlsoReads (reader' turn ts) (reader turn ts)) where
   pub in-turn-also : (turn n : ℕ) (ts : List Token) → AlsoReads (in_turn reader' turn n ts) (in_turn reader turn n ts)
@@ -35,6 +35,6 @@ pub number-also : (most most' : ℕ) (ts : List Token) → most ≤ most' → Al
 unfolding number
 number-also most most' ts more = go (is_number most (first ts)) refl
   where
-    go : (test : Bool) → is_number most (first ts) ≡ test → AlsoReads (number most' ts) (cond test (some (digits_after 0 (first ts), rest ts)) none)
+    go : (test : Bool) → is_number most (first ts) ≡ test → AlsoReads (number most' ts) (cond test (Some (digits_after 0 (first ts), rest ts)) None)
     go false e = tt
     go true e = rw (is_number-wider most most' (first ts) more e)

@@ -1,7 +1,7 @@
 -- A number that is read in at most so many digits is below that power of ten. Assumes nothing.
 use mathlib.Core.Path.{◌≡◌, refl}
 use mathlib.Core.List.{List}
-use mathlib.Core.Option.{none, some}
+use Rattle.std.specs.Prelude.{None, Some}
 use mathlib.Core.Bool.{Bool, true, false, cond}
 use Prim.Native.Nat.{ℕ, ◌^◌, ◌<◌}
 use Rattle.tokens.specs.Tokens.{Token}
@@ -14,7 +14,7 @@ pub number-below : (most : ℕ) (ts : List Token) → Holds (λ r. r.0 < 10 ^ mo
 unfolding number
 number-below most ts = go (is_number most (first ts)) refl
   where
-    go : (test : Bool) → is_number most (first ts) ≡ test → Holds (λ (r : ℕ × List Token). r.0 < 10 ^ most) (cond test (some (digits_after 0 (first ts), rest ts)) none)
+    go : (test : Bool) → is_number most (first ts) ≡ test → Holds (λ (r : ℕ × List Token). r.0 < 10 ^ most) (cond test (Some (digits_after 0 (first ts), rest ts)) None)
     go false e = tt
     go true e = is_number-below most (first ts) e
 

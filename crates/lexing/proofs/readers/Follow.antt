@@ -1,7 +1,7 @@
 -- Following a form's tokens, at places of the two texts. Assumes nothing.
 use mathlib.Core.Path.{◌≡◌, refl, ap, ◌∙◌}
 use mathlib.Core.List.{List, [], ◌∷◌}
-use mathlib.Core.Option.{none, some}
+use Rattle.std.specs.Prelude.{None, Some}
 use mathlib.Core.Bool.{true, false, cond, true≢false, false≢true, and-eq-true_iff}
 use Prim.Native.Nat.{ℕ}
 use Rattle.lists.specs.Lists.{all}
@@ -15,7 +15,7 @@ use Rattle.tokeniser.specs.declared.Cursor.{Cursor}
 use Rattle.tokeniser.specs.declared.Token as token
 
 -- the whole form is followed
-pub follow-end : (fs ts : List Token) → ended fs ≡ true → follow fs ts ≡ some ts
+pub follow-end : (fs ts : List Token) → ended fs ≡ true → follow fs ts ≡ Some ts
 unfolding follow
 follow-end [] ts e = refl
 follow-end (f ∷ fs) ts e = absurd (false≢true e)
@@ -38,12 +38,12 @@ rest-has-bytes (f ∷ fs) bytes = ((and-eq-true_iff (has_byte f) (all has_byte f
 -- one token of the form against one of the text
 module _ {form s : List ℕ} {there here : Cursor} {f t : token.Token} (h : ended (tokens_at form there) ≡ false) (nf : NextToken form there f) (nt : NextToken s here t) where
   follow-next : follow (tokens_at form there) (tokens_at s here)
-      ≡ cond (same (bytes_of form f) (bytes_of s t)) (follow (tokens_at form f.next) (tokens_at s t.next)) none
+      ≡ cond (same (bytes_of form f) (bytes_of s t)) (follow (tokens_at form f.next) (tokens_at s t.next)) None
   unfolding follow
   follow-next =
       rw (nf.is_first, nt.is_first, nf.then_rest, nt.then_rest) (ap (λ fs. follow fs (tokens_at s here)) (first_rest (tokens_at form there) h))
 
-  pub follow-missed : same (bytes_of form f) (bytes_of s t) ≡ false → follow (tokens_at form there) (tokens_at s here) ≡ none
+  pub follow-missed : same (bytes_of form f) (bytes_of s t) ≡ false → follow (tokens_at form there) (tokens_at s here) ≡ None
   follow-missed e = follow-next ∙ rw e
 
   pub follow-passed : same (bytes_of form f) (bytes_of s t) ≡ true

@@ -1,7 +1,7 @@
 -- Readings one after another: the next one of a loop, and what is read by all of them. Assumes nothing.
 use mathlib.Core.Path.{◌≡◌, refl, ap}
 use mathlib.Core.List.{List, [], ◌∷◌}
-use mathlib.Core.Option.{Option, none, some}
+use Rattle.std.specs.Prelude.{Option, None, Some}
 use Prim.Native.Nat.{ℕ, zero, suc, ◌+◌, ◌-◌, ◌≤◌, ◌<◌}
 use native.Mathlib.Omega.{arith}
 use lib.ListN.{length}
@@ -11,21 +11,21 @@ use Rattle.lexing.specs.Forms.{◌>>=◌, in_turn}
 
 -- what is read, if anything is, has the property P
 abbrev pub Holds : {A : Type 0} → (A → Type 0) → Option A → Type 0
-Holds P none = Unit {0}
-Holds P (some a) = P a
+Holds P None = Unit {0}
+Holds P (Some a) = P a
 
 pub holds-both : {A : Type 0} (P Q : A → Type 0) (o : Option A) → Holds P o → Holds Q o → Holds (λ a. P a × Q a) o
-holds-both P Q none h l = tt
-holds-both P Q (some a) h l = (h, l)
+holds-both P Q None h l = tt
+holds-both P Q (Some a) h l = (h, l)
 
 module _ {A B : Type 0} (Q : B → Type 0) where
   pub then-holds : (P : A → Type 0) (o : Option A) (f : A → Option B) → Holds P o → ((a : A) → P a → Holds Q (f a)) → Holds Q (o >>= f)
-  then-holds P none f h k = tt
-  then-holds P (some a) f h k = k a h
+  then-holds P None f h k = tt
+  then-holds P (Some a) f h k = k a h
 
   pub read-holds : (o : Option A) (f : A → Option B) → ((a : A) → Holds Q (f a)) → Holds Q (o >>= f)
-  read-holds none f k = tt
-  read-holds (some a) f k = k a
+  read-holds None f k = tt
+  read-holds (Some a) f k = k a
 
 module _ {A : Type 0} (reader : ℕ → List Token → Option (A × List Token)) where
   -- as many readings as are due, and each with the property that the reader gives
@@ -45,20 +45,20 @@ module _ {A : Type 0} (reader : ℕ → List Token → Option (A × List Token))
 
   -- of n readings the one after k is missed, or it is read, or none is left
   module _ (turn k n : ℕ) (ts : List Token) where
-    pub turn-missed : k < n → reader turn ts ≡ none → in_turn reader turn (n - k) ts ≡ none
+    pub turn-missed : k < n → reader turn ts ≡ None → in_turn reader turn (n - k) ts ≡ None
     unfolding in_turn
     turn-missed h e =
         let one_less : n - k ≡ suc (n - (k + 1)) = omega arith in
         rw (one_less, e)
 
-    pub turn-read : (a : A) (ts' : List Token) → k < n → reader turn ts ≡ some (a, ts')
-        → in_turn reader turn (n - k) ts ≡ (in_turn reader (turn + 1) (n - (k + 1)) ts' >>= (λ r. some (a ∷ r.0, r.1)))
+    pub turn-read : (a : A) (ts' : List Token) → k < n → reader turn ts ≡ Some (a, ts')
+        → in_turn reader turn (n - k) ts ≡ (in_turn reader (turn + 1) (n - (k + 1)) ts' >>= (λ r. Some (a ∷ r.0, r.1)))
     unfolding in_turn
     turn-read a ts' h e =
         let one_less : n - k ≡ suc (n - (k + 1)) = omega arith in
         rw (one_less, e)
 
-    pub turn-none-left : n ≤ k → in_turn reader turn (n - k) ts ≡ some ([], ts)
+    pub turn-none-left : n ≤ k → in_turn reader turn (n - k) ts ≡ Some ([], ts)
     unfolding in_turn
     turn-none-left h =
         let none_left : n - k ≡ 0 = omega arith in

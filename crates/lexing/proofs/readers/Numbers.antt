@@ -1,7 +1,8 @@
 -- A number at a place of a text, by what its token's bytes are. Assumes nothing.
 use mathlib.Core.Path.{◌≡◌, refl}
 use mathlib.Core.List.{List, [], ◌∷◌}
-use mathlib.Core.Option.{Option, none, some, none-ne-some}
+use Rattle.std.specs.Prelude.{Option, None, Some}
+use Rattle.std.proofs.lemmas.Option.{none-some}
 use mathlib.Core.Bool.{Bool, true, false, cond}
 use Prim.Native.Nat.{ℕ}
 use Rattle.numerals.specs.Outcome.{outcome}
@@ -18,28 +19,28 @@ use Rattle.lexing.specs.Numbers.{number}
 module _ {s : List ℕ} {c : Cursor} {t : token.Token} (most : ℕ) (next : NextToken s c t) where
   -- what is read, by whether the token is a number
   abbrev read_if : Bool → Option (ℕ × List Token)
-  read_if test = cond test (some (digits_after 0 (bytes_of s t), tokens_at s t.next)) none
+  read_if test = cond test (Some (digits_after 0 (bytes_of s t), tokens_at s t.next)) None
 
   number_at : number most (tokens_at s c) ≡ read_if (is_number most (bytes_of s t))
   unfolding number
   number_at = rw (next.is_first, next.then_rest)
 
-  pub number-missed : outcome (numeral_value most (bytes_of s t)) ≡ Missed → number most (tokens_at s c) ≡ none
+  pub number-missed : outcome (numeral_value most (bytes_of s t)) ≡ Missed → number most (tokens_at s c) ≡ None
   number-missed missed = rw number_at (go (is_number most (bytes_of s t)) missed)
     where
-      go : (test : Bool) → outcome (cond test (some (digits_after 0 (bytes_of s t))) none) ≡ Missed → read_if test ≡ none
+      go : (test : Bool) → outcome (cond test (Some (digits_after 0 (bytes_of s t))) None) ≡ Missed → read_if test ≡ None
       go false e = refl
       go true e = cc
 
-  pub number_read : (n : ℕ) → outcome (numeral_value most (bytes_of s t)) ≡ Value n → number most (tokens_at s c) ≡ some (n, tokens_at s t.next)
+  pub number_read : (n : ℕ) → outcome (numeral_value most (bytes_of s t)) ≡ Value n → number most (tokens_at s c) ≡ Some (n, tokens_at s t.next)
   number_read n read = rw number_at (go (is_number most (bytes_of s t)) read)
     where
-      go : (test : Bool) → outcome (cond test (some (digits_after 0 (bytes_of s t))) none) ≡ Value n → read_if test ≡ some (n, tokens_at s t.next)
+      go : (test : Bool) → outcome (cond test (Some (digits_after 0 (bytes_of s t))) None) ≡ Value n → read_if test ≡ Some (n, tokens_at s t.next)
       go false e = cc
       go true e = cc
 
 -- where a number is read a token is left
-pub number-left : (most : ℕ) (ts : List Token) {r : ℕ × List Token} → number most ts ≡ some r → ended ts ≡ false
+pub number-left : (most : ℕ) (ts : List Token) {r : ℕ × List Token} → number most ts ≡ Some r → ended ts ≡ false
 unfolding number is_number
-number-left most [] {r} e = absurd (none-ne-some r e)
+number-left most [] {r} e = absurd (none-some r e)
 number-left most (t ∷ ts) e = refl

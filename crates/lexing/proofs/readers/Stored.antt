@@ -2,7 +2,7 @@
 -- Assumes nothing.
 use mathlib.Core.Path.{◌≡◌, sym, ap, ◌∙◌}
 use mathlib.Core.List.{List, map}
-use mathlib.Core.Option.{Option, none, some}
+use Rattle.std.specs.Prelude.{Option, None, Some}
 use mathlib.Core.Bool.{Bool, true, ◌&&◌, and-true, and_assoc}
 use Prim.Native.Nat.{ℕ, ◌+◌, ◌-◌, ◌≤◌, ◌<◌}
 use native.Mathlib.Nat.{sub-zero}
@@ -45,11 +45,11 @@ module _ {A B R : Type 0} (l : Storing A B R) (s : List ℕ) (c : Cursor) (n : �
       s c (in_turn l.reader 1 n ts) (in-turn-length l.reader 1 n ts))
 
   module _ (k : ℕ) (places : List B) (passed : Bool) (ts : List Token) where
-    pub next-missed : k < n → l.reader (k + 1) ts ≡ none → l.missed ≡ stored_from k places passed ts
+    pub next-missed : k < n → l.reader (k + 1) ts ≡ None → l.missed ≡ stored_from k places passed ts
     unfolding stored_from
     next-missed more e = answer-turn-missed _ _ s c l.reader (k + 1) k n ts more e
 
-    pub next-stored : (a : A) (ts' : List Token) → k < n → l.reader (k + 1) ts ≡ some (a, ts')
+    pub next-stored : (a : A) (ts' : List Token) → k < n → l.reader (k + 1) ts ≡ Some (a, ts')
         → stored_from k places passed ts ≡ stored_from (k + 1) (set places k (l.stored a)) (passed && l.test a) ts'
     unfolding stored_from
     next-stored a ts' more e =

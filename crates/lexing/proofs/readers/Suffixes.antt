@@ -1,6 +1,6 @@
 -- What a reader leaves is the end of the tokens that it was given. Assumes nothing.
 use mathlib.Core.List.{List, [], ◌∷◌, IsSuffix, IsSuffix-trans as suffix_trans, suffix_refl, suffix-cons}
-use mathlib.Core.Option.{Option, none, some}
+use Rattle.std.specs.Prelude.{Option, None, Some}
 use mathlib.Core.Bool.{Bool, true, false, cond}
 use Prim.Native.Nat.{ℕ, zero, suc, ◌+◌}
 use lib.Dec.{eqb}
@@ -15,14 +15,14 @@ LeavesEnd left ts o = Holds (λ a. IsSuffix (left a) ts) o
 
 -- the end of the end is the end of all
 pub end-of-end : {B : Type 0} {ts us : List Token} (left : B → List Token) (o : Option B) → IsSuffix us ts → LeavesEnd left us o → LeavesEnd left ts o
-end-of-end left none last later = tt
-end-of-end left (some b) last later = suffix_trans later last
+end-of-end left None last later = tt
+end-of-end left (Some b) last later = suffix_trans later last
 
 -- one reader after another
 pub then-leaves : {A B : Type 0} (ts : List Token) (o : Option A) (f : A → Option B) (left : A → List Token) (left' : B → List Token)
     → LeavesEnd left ts o → ((a : A) → LeavesEnd left' (left a) (f a)) → LeavesEnd left' ts (o >>= f)
-then-leaves ts none f left left' last later = tt
-then-leaves ts (some a) f left left' last later = end-of-end left' (f a) last (later a)
+then-leaves ts None f left left' last later = tt
+then-leaves ts (Some a) f left left' last later = end-of-end left' (f a) last (later a)
 
 rest-suffix : (ts : List Token) → IsSuffix (rest ts) ts
 rest-suffix [] = suffix_refl []
@@ -33,7 +33,7 @@ unfolding follow
 follow-leaves [] ts = suffix_refl ts
 follow-leaves (f ∷ fs) ts = go (same f (first ts)) (end-of-end (λ us. us) (follow fs (rest ts)) (rest-suffix ts) (follow-leaves fs (rest ts)))
   where
-    go : (test : Bool) → LeavesEnd (λ us. us) ts (follow fs (rest ts)) → LeavesEnd (λ us. us) ts (cond test (follow fs (rest ts)) none)
+    go : (test : Bool) → LeavesEnd (λ us. us) ts (follow fs (rest ts)) → LeavesEnd (λ us. us) ts (cond test (follow fs (rest ts)) None)
     go true later = later
     go false later = tt
 
@@ -41,7 +41,7 @@ pub number-leaves : (most : ℕ) (ts : List Token) → LeavesEnd (λ r. r.1) ts 
 unfolding number
 number-leaves most ts = go (is_number most (first ts))
   where
-    go : (test : Bool) → LeavesEnd (λ (r : ℕ × List Token). r.1) ts (cond test (some (digits_after 0 (first ts), rest ts)) none)
+    go : (test : Bool) → LeavesEnd (λ (r : ℕ × List Token). r.1) ts (cond test (Some (digits_after 0 (first ts), rest ts)) None)
     go true = rest-suffix ts
     go false = tt
 
@@ -50,7 +50,7 @@ unfolding number_after
 number_after-leaves fs most ts = then-leaves ts (follow fs ts) (number most) (λ us. us) (λ r. r.1) (follow-leaves fs ts) (number-leaves most)
 
 -- what is left where a test holds
-pub test-leaves : (test : Bool) (ts : List Token) → LeavesEnd (λ us. us) ts (cond test (some ts) none)
+pub test-leaves : (test : Bool) (ts : List Token) → LeavesEnd (λ us. us) ts (cond test (Some ts) None)
 test-leaves true ts = suffix_refl ts
 test-leaves false ts = tt
 

@@ -1,6 +1,6 @@
 use mathlib.Core.Path.{◌≡◌, sym, ap, ap₂, ◌∙◌}
 use mathlib.Core.List.{List}
-use mathlib.Core.Option.{Option, some}
+use Rattle.std.specs.Prelude.{Option, Some}
 use mathlib.Core.Bool.{Bool, true}
 use Prim.Native.Nat.{ℕ, ◌≤◌, min}
 use native.Mathlib.Omega.{arith}
@@ -49,7 +49,7 @@ agents_within c = sym c.agents_allowed.ensures ∙ c.if-not-agents_allowed.false
 -- all tests before the yard lines
 before-lines : (c : Else-not-items_allowed) → let text = c.args.text.now in
     (leb (length text) longest_text ≡ true) × (ltb 0 (length text) ≡ true)
-    × (head (tokens text) ≡ some (c.in-Counts.agents, c.in-Counts.items, tokens_at text c.in-Counts.first))
+    × (head (tokens text) ≡ Some (c.in-Counts.agents, c.in-Counts.items, tokens_at text c.in-Counts.first))
     × (agents_allowed c.in-Counts.agents ≡ true) × (items_allowed c.in-Counts.items ≡ true)
 before-lines c =
     let text = c.args.text.now in

@@ -1,7 +1,7 @@
 -- The loops over the marks of a line and over the yard lines, before any is read. Assumes nothing.
 use mathlib.Core.Path.{◌≡◌, refl, ap, ◌∙◌}
 use mathlib.Core.List.{List, map}
-use mathlib.Core.Option.{Option, none, some}
+use Rattle.std.specs.Prelude.{Option, None, Some}
 use mathlib.Core.Bool.{Bool, true}
 use Prim.Native.Nat.{ℕ, ◌≤◌}
 use Rattle.lists.specs.Lists.{all, padded}
@@ -53,7 +53,7 @@ module _ (s : List ℕ) (c : Cursor) (items : ℕ) (ts : List Token) where
   no-line-stored agents few = go (yard_lines mark_digits agents items ts) ∙ none-stored (lines_stored items) s c agents most_agents (yard blank_row) ts few
     where
       go : (o : Option (List (List ℕ) × List Token))
-          → body_from s c (o >>= (λ q. some (record { rows = q.0 }, q.1)))
+          → body_from s c (o >>= (λ q. Some (record { rows = q.0 }, q.1)))
           ≡ answer_from unread_body (λ rows next. yards_read (all (allowed_row greatest_mark) rows) (padded most_agents (yard blank_row) (map (λ row. yard (padded most_items 0 (map reduced row))) rows)) next) s c o
-      go none = refl
-      go (some (rows, us)) = ap (λ yards. yards_read (all (allowed_row greatest_mark) rows) yards (place_left s c us)) (yards-padded rows)
+      go None = refl
+      go (Some (rows, us)) = ap (λ yards. yards_read (all (allowed_row greatest_mark) rows) yards (place_left s c us)) (yards-padded rows)

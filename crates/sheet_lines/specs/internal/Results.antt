@@ -1,7 +1,6 @@
 -- What the private functions answer for the marks of a line that are read from the tokens at a place: nothing, or the marks as they are
 -- stored, and the place just behind them. Assumes nothing: these are definitions.
-use Rattle.std.specs.Prelude.{List, map, true, false, ℕ}
-use Rattle.std.proofs.Math.Option.{Option}
+use Rattle.std.specs.Prelude.{List, map, true, false, ℕ, Option}
 use Rattle.lists.specs.Lists.{padded}
 use Rattle.sheet.specs.Limits.{most_items, greatest_mark, blank_row}
 use Rattle.tokens.specs.Tokens.{Token}

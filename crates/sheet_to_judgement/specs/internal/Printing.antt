@@ -1,6 +1,5 @@
 -- What printing the judgement on a sheet's division into a lent buffer answers. Assumes nothing: these are definitions.
-use Rattle.std.specs.Prelude.{List, ℕ}
-use Rattle.std.proofs.Math.Option.{Option}
+use Rattle.std.specs.Prelude.{List, ℕ, Option}
 use Rattle.sheet.specs.Contents.{Contents}
 use Rattle.sheet.specs.Answers.{Answer, and_then}
 use Rattle.writing.specs.Filled.{filling}
