@@ -137,5 +137,5 @@ pub fn cut(valuation: Row, set: u16, bundles: usize, allowance: u32) -> Result<C
         return Err(Refusal::AllowanceTooSmall);
     }
     let chosen = values_of(valuation, set);
-    Ok(cut_values(&chosen.values[..chosen.count], bundles, allowance))
+    Ok(cut_values(chosen.as_slice(), bundles, allowance))
 }
