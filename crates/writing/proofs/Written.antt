@@ -56,6 +56,7 @@ next-foldl-with_byte : (p : Output) (text : List ℕ) → p.next ≤ length p.by
 next-foldl-with_byte p [] inside = inside
 next-foldl-with_byte p (byte ∷ text) inside = next-foldl-with_byte (with_byte p byte) text (next-with_byte p byte inside)
 
-pub written-within : (old text new : List ℕ) (next : ℕ) → output new next ≡ foldl with_byte (output old 0) text → next ≤ length new
-written-within old text new next w =
-    subst (λ p. p.next ≤ length p.bytes) (sym w) (next-foldl-with_byte (output old 0) text (omega arith))
+pub written-within : {u w : Writer} {text : List ℕ} → Writes u text w → u.at ≡ 0 → w.at ≤ length w.buffer.now
+written-within {u} {w} {text} written front =
+    let bytewise = ap output_of written.bytewise ∙ ap (λ at. foldl with_byte (output u.buffer.now at) text) front in
+    subst (λ p. p.next ≤ length p.bytes) (sym bytewise) (next-foldl-with_byte (output u.buffer.now 0) text (omega arith))
