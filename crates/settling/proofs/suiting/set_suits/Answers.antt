@@ -26,8 +26,8 @@ returns c =
     let terms = limited_terms a.terms in
     let worth = c.value_of.result in
     let share = min a.share greatest_sum in
-    let whole : min worth greatest_sum ≡ worth = omega (arith, c.value_of.ensures.bound) in
+    let whole : min worth greatest_sum ≡ worth = omega (arith, c.value_of.ensures.1) in
     ap (le_z (pos 0)) (to_z-of_z w64 z (record { sfits = c.margin_of.type_inv }))
     ∙ at-least-zero z
-    ∙ ap non_neg (c.margin_of.ensures ∙ ap (λ w. margin terms w share) (whole ∙ c.value_of.ensures.value))
+    ∙ ap non_neg (c.margin_of.ensures ∙ ap (λ w. margin terms w share) (whole ∙ c.value_of.ensures.0))
     ∙ non_neg-margin terms (value a.valuation (items_of a.set)) share
