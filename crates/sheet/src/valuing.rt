@@ -36,8 +36,7 @@ pub fn values_of(valuation: Row, set: u16) -> ShortList<u64>
 
 // The value of the items of a set: the sum of their marks.
 pub fn value_of(valuation: Row, set: u16) -> u64
-    ensures value { result ≡ value valuation (items_of set) }
-    ensures bound { result ≤ greatest_sum }
+    ensures { (result ≡ value valuation (items_of set)) × (result ≤ greatest_sum) }
 {
     values_of(valuation, set).as_slice().iter().sum()
 }

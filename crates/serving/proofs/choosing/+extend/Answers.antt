@@ -45,7 +45,7 @@ returns-in_default t c =
 pub loop-bundle-init : goal.loop-bundle-init
 loop-bundle-init t c =
     let a = c.args in
-    first_matching-all (suits_of a.suiting) a.served.now a.free.now a.chosen (agent-left c)
+    first_matching-all (suits_of a.suiting) a.served.now a.free.now a.chosen (agent-left (goal.at.loop-bundle-init t c).In-Some)
 
 pub is_suited-requires : goal.is_suited-requires
 is_suited-requires t c =

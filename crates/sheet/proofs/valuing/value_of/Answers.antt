@@ -13,13 +13,10 @@ sum-requires-clause-fits c =
     let fits : sum c.as_slice.result.now < 2 ^ 64 = omega (arith, ap total told, total-sum c.as_slice.result.now, c.values_of.ensures.bound) in
     search rules
 
-pub returns-clause-value : goal.returns-clause-value
+pub returns : goal.returns
 unfolding values_of
-returns-clause-value c =
+returns c =
     let told = c.as_slice.ensures.same ∙ c.values_of.ensures.values in
     let summed : c.sum.result ≡ sum c.as_slice.result.now = search rules in
-    summed ∙ sym (total-sum c.as_slice.result.now) ∙ ap total told
-
-pub returns-clause-bound : goal.returns-clause-bound
-unfolding values_of
-returns-clause-bound c = omega (arith, returns-clause-value c, c.values_of.ensures.bound)
+    let is = summed ∙ sym (total-sum c.as_slice.result.now) ∙ ap total told in
+    (is, omega (arith, is, c.values_of.ensures.bound))
