@@ -49,7 +49,7 @@ pub fn read_division(s: &[u8], c: Cursor, agents: usize, items: usize) -> Option
     }
     let (grade, first) = read_head(s, c, agents, items)?;
     let (lines, last) = lines::division_lines(s, first, agents, items)?;
-    end_of_text(s, last)?;
+    let _end = end_of_text(s, last)?;
     Some(Stated {
         grade: grade as u8,
         lines,

@@ -43,15 +43,15 @@ returns-in_err-lines c =
     let head = division_head-read _ _ _ _ c.in_ok-grade.ensures in
     rw (reading_division-text _ _ _ few few_items, head.read, found-none _ _ _ _ c.in_err-lines.ensures) c.from_residual-in_err-lines.ensures
 
-pub returns-in_err-end_of_text : goal.returns-in_err-end_of_text
+pub returns-in_err-_end : goal.returns-in_err-_end
 unfolding division_text
-returns-in_err-end_of_text c =
+returns-in_err-_end c =
     let a = c.args in
     let few : a.agents ≤ most_agents = omega arith in
     let few_items : a.items ≤ most_items = omega arith in
     let head = division_head-read _ _ _ _ c.in_ok-grade.ensures in
     let lines = found-to _ _ _ _ (division_lines-leave _ _ _) c.in_ok-lines.ensures in
-    rw (reading_division-text _ _ _ few few_items, head.read, lines.to.read, place-none _ _ _ c.in_err-end_of_text.ensures) c.from_residual-in_err-end_of_text.ensures
+    rw (reading_division-text _ _ _ few few_items, head.read, lines.to.read, place-none _ _ _ c.in_err-_end.ensures) c.from_residual-in_err-_end.ensures
 
 pub overflow_cast-result : goal.overflow_cast-result
 overflow_cast-result c =
@@ -68,6 +68,6 @@ returns c =
     let few_items : a.items ≤ most_items = omega arith in
     let head = division_head-read _ _ _ _ c.in_ok-grade.ensures in
     let lines = found-to _ _ _ _ (division_lines-leave _ _ _) c.in_ok-lines.ensures in
-    let end = place-to _ _ _ (end_line-leaves _ _) c.in_ok-end_of_text.ensures in
+    let end = place-to _ _ _ (end_line-leaves _ _) c.in_ok-_end.ensures in
     rw (reading_division-text _ _ _ few few_items, head.read, lines.to.read, end.read)
     (ap {B = Option Stated} (λ lines. Some (record { grade = c.in_ok-grade.grade; lines = lines })) lines.is_kept)
