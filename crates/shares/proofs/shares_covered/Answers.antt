@@ -41,7 +41,7 @@ total-read c =
     let i = c.loop-i.i in
     let all = c.all_items-set in
     let row = get_or a.table i [] in
-    let whole : c.value_of.result ≡ value row (items_of all.result) = c.value_of.ensures.value in
+    let whole : c.value_of.result ≡ value row (items_of all.result) = c.value_of.ensures.0 in
     let few : min a.items most_items ≡ a.items = omega arith in
     whole
     ∙ ap (λ set. value row (items_of set)) (all.ensures ∙ ap (λ m. set_of (range 1 m)) few)
