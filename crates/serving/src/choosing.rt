@@ -22,7 +22,7 @@ fn extend(suiting: Suiting, served: &[u8], free: &[u8], chosen: ShortList<u8>) -
         return chosen;
     };
     for bundle in free {
-        if is_suited(suiting, *agent, *bundle) && !chosen.as_slice().contains(bundle) {
+        if is_suited(suiting, *agent, *bundle) && !chosen.contains(*bundle) {
             let found = extend(suiting, served, free, chosen.with(*bundle));
             if !found.as_slice().is_empty() {
                 return found;

@@ -1,5 +1,6 @@
 // Short lists: of items, agents or bundles, or of the values of items.
 ghost use Rattle.std.specs.Prelude.{◌≡◌, ◌≤◌, List, [], ◌∷◌, ◌++◌, length, take};
+ghost use Rattle.lists.specs.Lists.{elem};
 ghost use Rattle.sheet.specs.Limits.{set_bits};
 
 use crate::Sheet;
@@ -69,5 +70,14 @@ impl<T: Copy> ShortList<T> {
         };
         longer.push(entry);
         longer
+    }
+}
+
+impl ShortList<u8> {
+    // Whether the number stands in the list.
+    pub fn contains(&self, number: u8) -> bool
+        ensures { result ≡ elem number self.now }
+    {
+        self.as_slice().contains(&number)
     }
 }

@@ -5,10 +5,9 @@ use Prim.Native.Nat.{ℕ, ◌<◌}
 use native.Mathlib.Omega.{arith}
 use lib.ListN.{length, get_or, take, length-append}
 use borrow.Author.Tests.{eqb-true, eqb-false}
-use Rattle.lists.specs.Lists.{elem}
 use Rattle.lists.proofs.places.Passing.{within-at}
 use Rattle.sheet.specs.Limits.{most_agents, set_bits}
-use Rattle.sheet.proofs.listing.Entries.{pushed, contains-elem}
+use Rattle.sheet.proofs.listing.Entries.{pushed}
 use Rattle.serving.specs.Serving.{suits_of}
 use Rattle.serving.specs.internal.Searching.{first_matching}
 use Rattle.serving.proofs.searches.FirstMatching.{first_matching-end, first_matching-all, first_matching-found, first_matching-next, unsuited-none, used-none, matching-with}
@@ -62,7 +61,7 @@ extend-found-requires t c =
     let s = (goal.at.extend-found-requires t c).In-Some in
     let bundle = get_or a.free.now c.loop-bundle.bundle-index 0 in
     let good = suits-agent s bundle c.is_suited.result true c.is_suited.ensures c.if-is_suited.true in
-    let unused = sym (c.contains.ensures.value ∙ contains-elem bundle c.as_slice.result.now ∙ ap (elem bundle) c.as_slice.ensures.same) ∙ c.if-not-contains.true in
+    let unused = sym c.contains.ensures ∙ c.if-not-contains.true in
     let told = c.with.ensures ∙ chosen_more s bundle in
     let next = matching-with (suits s) a.served.now a.free.now a.chosen bundle c.requires.begun (agent-left s) good unused in
     (omega (arith, ap length told, length-append a.chosen (bundle ∷ []), agent-left s), (c.requires.agents, (c.requires.bundles, (c.requires.room, rw told next))))
@@ -76,7 +75,7 @@ returns-then-not-is_empty t c =
     let found : c.extend-found.result ≡ first s (a.chosen ++ (bundle ∷ [])) = c.extend-found.ensures ∙ ap (first s) (c.with.ensures ∙ chosen_more s bundle) in
     let some = eqb-false _ _ (sym c.is_empty.ensures ∙ c.if-not-is_empty.true) in
     found ∙ first_matching-found (suits s) a.served.now a.free.now a.chosen (agent-left s) l.bundle-index l.invariant (omega arith)
-    (λ none. some (ap length (c.as_slice-then-not-contains.ensures.same ∙ found) ∙ none))
+    (λ none. some (ap length (c.as_slice.ensures.same ∙ found) ∙ none))
 
 pub loop-bundle-preserved : goal.loop-bundle-preserved
 loop-bundle-preserved t c =
@@ -87,11 +86,11 @@ loop-bundle-preserved t c =
     let next = first_matching-next (suits s) a.served.now a.free.now a.chosen (agent-left s) l.bundle-index l.invariant (omega arith) in
     elim c.if-is_suited.branch [
       | then-is_suited+then-not-contains+else-not-is_empty w ↦
-          let found = w.as_slice-then-not-contains.ensures.same ∙ w.extend-found.ensures ∙ ap (first s) (w.with.ensures ∙ chosen_more s bundle) in
+          let found = w.as_slice.ensures.same ∙ w.extend-found.ensures ∙ ap (first s) (w.with.ensures ∙ chosen_more s bundle) in
           next (sym (ap length found) ∙ eqb-true _ _ (sym w.is_empty.ensures ∙ w.if-not-is_empty.false))
       | else-is_suited w ↦ elim w.else-is_suited.branch [
         | else-is_suited-via-then-is_suited+else-not-contains v ↦
-            next (used-none (suits s) a.served.now a.free.now a.chosen bundle (sym (v.contains.ensures.value ∙ contains-elem bundle v.as_slice.result.now ∙ ap (elem bundle) v.as_slice.ensures.same) ∙ v.if-not-contains.false))
+            next (used-none (suits s) a.served.now a.free.now a.chosen bundle (sym v.contains.ensures ∙ v.if-not-contains.false))
         | else-is_suited-via-else-is_suited v ↦
             next (unsuited-none (suits s) a.served.now a.free.now a.chosen bundle (suits-agent s bundle c.is_suited.result false c.is_suited.ensures v.if-is_suited.false))
       ]
