@@ -3,43 +3,35 @@
 
 ghost use Rattle.std.specs.Prelude.{◌≡◌};
 ghost use Rattle.sheet.specs.Sets.{items_of};
-ghost use Rattle.sheet.specs.Listed.{numbered};
 ghost use Rattle.bundling.specs.Bundles.{bundle, bundle_sets};
 
 use cut::Partition;
-use sheet::listing::{Numbers, append, none};
+use sheet::listing::ShortList;
 use sheet::naming::{items_of, set_of};
-use sheet::{Sets, Sheet, lesser};
+use sheet::{Sets, Sheet};
 
 // The items of the set that the partition puts into one bundle: its entries follow the items in rising order.
-pub fn bundle_of(set: u16, partition: Partition, number: u8) -> Numbers
-    ensures { result ≡ numbered (bundle (items_of set) partition number) }
+pub fn bundle_of(set: u16, partition: Partition, number: u8) -> ShortList<u8>
+    ensures { result ≡ bundle (items_of set) partition number }
 {
     let items = items_of(set);
-    let numbers = items.numbers;
-    let laid = lesser(items.count, Sheet::ITEMS);
-    let mut found = none();
-    let mut i: usize = 0;
-    while i < laid {
-        if number == partition[i] {
-            found = append(found, numbers[i]);
+    let mut bundle = ShortList::new();
+    for (item, place) in items.as_slice().iter().zip(&partition) {
+        if *place == number {
+            bundle.push(*item);
         }
-        i += 1;
     }
-    found
+    bundle
 }
 
 // The set of each bundle of the partition.
 pub fn bundle_sets(set: u16, partition: Partition) -> Sets
     ensures { result ≡ bundle_sets set partition }
 {
-    let mut sets: Sets = [0; Sheet::AGENTS];
-    let mut i: usize = 0;
-    while i < Sheet::AGENTS {
+    let mut sets = [0; Sheet::AGENTS];
+    for i in 0..Sheet::AGENTS {
         let bundle = bundle_of(set, partition, i as u8 + 1);
-        let numbers = bundle.numbers;
-        sets[i] = set_of(numbers);
-        i += 1;
+        sets[i] = set_of(bundle.as_slice());
     }
     sets
 }

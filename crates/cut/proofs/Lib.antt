@@ -5,4 +5,4 @@ pub mod Samples
 mod One
 mod Whole
 mod ShareFirst
-mod Answered
+mod Stored

@@ -1,5 +1,5 @@
 -- What cutting answers, refusals among it. Assumes nothing: these are definitions.
-use Rattle.std.specs.Prelude.{Bool, cond, List, [], ℕ, leb, length, take}
+use Rattle.std.specs.Prelude.{Bool, cond, List, ℕ, leb, length, take}
 use Rattle.lists.specs.Lists.{padded, all}
 use Rattle.lists.specs.Dictionary.{greatest, first_best}
 use Rattle.sheet.specs.Limits.{most_agents, most_items, within}
@@ -8,8 +8,8 @@ use Rattle.sheet.specs.Sets.{items_of}
 use Rattle.sheet.specs.Valuations.{values_of}
 use Rattle.growth.specs.Growth.{growth_partitions, growths}
 use Rattle.maximin.specs.Share.{least_bundle, maximin_share, maximin_partition}
-use Rattle.cut.specs.declared.Answer.TheVariants.{Refused, Share, Stopped}
-use Rattle.cut.specs.declared.Outcome.{Outcome}
+use Rattle.cut.specs.declared.Figure.TheVariants.{Share, Stopped}
+use Rattle.cut.specs.declared.Cutting as cut
 
 -- the maximin share, and the partition (cut) that shows it
 pub record Cutting : Type 0 where
@@ -72,9 +72,8 @@ least_answered (accepted result) = least_found result
 abbrev pub placed : List ℕ → List ℕ
 placed partition = padded most_items 0 partition
 
--- how the code's answer stands for each case: the number of the refusal and no partition; or the share, or the least bundle of a cut that
--- was stopped, with the partition and the number of growth partitions looked at
-abbrev pub outcome : Answer Found → Outcome
-outcome (refused number) = record { answer = Refused number; partition = placed []; count = 0 }
-outcome (accepted (shared share partition count)) = record { answer = Share share; partition = placed partition; count = count }
-outcome (accepted (stopped least partition count)) = record { answer = Stopped least; partition = placed partition; count = count }
+-- how the code stores what a cut finds: the share, or the least bundle of a cut that was stopped, with the partition in twelve places and
+-- the number of growth partitions looked at
+abbrev pub stored : Found → cut.Cutting
+stored (shared share partition count) = record { figure = Share share; partition = placed partition; count = count }
+stored (stopped least partition count) = record { figure = Stopped least; partition = placed partition; count = count }

@@ -7,64 +7,51 @@
 ghost use Rattle.std.specs.Prelude.{◌≡◌, ◌≤◌, ◌<◌, leb, length, replicate};
 ghost use Rattle.lists.specs.Sums.{total};
 ghost use Rattle.sheet.specs.Limits.{most_agents, most_items, greatest_sum};
-ghost use Rattle.sheet.specs.Answers.{refused, accepted};
+ghost use Rattle.sheet.specs.Answers.{map_answer};
+ghost use Rattle.sheet.specs.Refusals.{answer_of};
 ghost use Rattle.growth.specs.Growth.{growths};
-ghost use Rattle.cut.specs.Outcome.{placed, outcome, whole_cut, stopped_cut, found, cutting};
+ghost use Rattle.cut.specs.Outcome.{placed, stored, whole_cut, stopped_cut, found, cutting};
 ghost use Rattle.cut.specs.internal.Allowed.{Allowed};
 
 use crate::sharing::{deal, mean};
 use crate::sorting::falling;
 use growth::{MOST, count};
+use sheet::refusal::Refusal;
 use sheet::valuing::values_of;
 use sheet::{Row, Sheet, is_within};
+pub use walk_steps::Partition;
 use walking::{find, find_after};
 
 mod sharing;
 mod sorting;
 
-// The share; where the allowance stopped the cut, the best least bundle; or the number of the reason why the cut is refused.
-#[derive(Clone, Copy)]
-pub enum Answer {
-    Refused(u8),
+// The share; or, where the allowance stopped the cut, the best least bundle.
+#[derive(Clone, Copy, Debug, PartialEq, Eq)]
+pub enum Figure {
     Share(u64),
     Stopped(u64),
 }
 
-// The bundle of each item of the set in rising order, 0 after the last.
-pub type Partition = [u8; Sheet::ITEMS];
-
 // A number for each item.
 type Values = [u64; Sheet::ITEMS];
 
-// The answer, the partition that reaches it, and the number of growth partitions looked at; all 0 where the cut is refused.
+// What a cut finds: the figure, the partition that reaches it, and the number of growth partitions looked at.
 #[derive(Clone, Copy)]
-pub struct Outcome {
-    pub answer: Answer,
+pub struct Cutting {
+    pub figure: Figure,
     pub partition: Partition,
     pub count: u32,
 }
 
-// A refusal, with no partition.
-fn refuse(number: u8) -> Outcome
-    ensures { result ≡ outcome (refused number) }
-{
-    Outcome {
-        answer: Answer::Refused(number),
-        partition: [0; Sheet::ITEMS],
-        count: 0,
-    }
-}
-
 // The cut that its allowance stops: one walk over the growth partitions in dictionary order, as far as the allowance goes.
-fn cut_stopped(values: &[u64], bundles: usize, allowance: u32) -> Outcome
+fn cut_stopped(values: &[u64], bundles: usize, allowance: u32) -> Cutting
     requires { Allowed values.now bundles allowance × (allowance < growths bundles (length values.now)) }
-    ensures { result ≡ outcome (accepted (stopped_cut bundles values.now allowance)) }
+    ensures { result ≡ stored (stopped_cut bundles values.now allowance) }
 {
     let end = find(values, bundles, mean(values, bundles), 0, allowance);
-    let best = end.best;
-    let partition = best.partition;
-    Outcome {
-        answer: Answer::Stopped(best.goal - 1),
+    let partition = end.best.partition;
+    Cutting {
+        figure: Figure::Stopped(end.best.goal - 1),
         partition,
         count: allowance - end.allowance,
     }
@@ -72,19 +59,18 @@ fn cut_stopped(values: &[u64], bundles: usize, allowance: u32) -> Outcome
 
 // The cut where the allowance is enough: the share first, over the values in falling order, and then a walk for the first partition that
 // reaches it, which ends there.
-fn cut_by_share(values: &[u64], bundles: usize, allowance: u32) -> Outcome
+fn cut_by_share(values: &[u64], bundles: usize, allowance: u32) -> Cutting
     requires { Allowed values.now bundles allowance × (growths bundles (length values.now) ≤ allowance) }
-    ensures { result ≡ outcome (accepted (whole_cut bundles values.now)) }
+    ensures { result ≡ stored (whole_cut bundles values.now) }
 {
     let sorted = falling(values);
     let ordered = &sorted[..values.len()];
     let ceiling = mean(values, bundles);
     let goal = deal(ordered, bundles) + 1;
     let end = find_after(ordered, values, bundles, ceiling, goal, allowance);
-    let best = end.best;
-    let partition = best.partition;
-    Outcome {
-        answer: Answer::Share(best.goal - 1),
+    let partition = end.best.partition;
+    Cutting {
+        figure: Figure::Share(end.best.goal - 1),
         partition,
         count: allowance - end.allowance,
     }
@@ -96,21 +82,17 @@ fn all_in_first(count: usize) -> Partition
     ensures { result ≡ placed (replicate count 1) }
 {
     let mut partition = [0u8; Sheet::ITEMS];
-    let mut i: usize = 0;
-    while i < count {
-        partition[i] = 1;
-        i += 1;
-    }
+    partition[..count].fill(1);
     partition
 }
 
 // The cut in one bundle, of which there is one partition.
-fn cut_in_one(values: &[u64]) -> Outcome
+fn cut_in_one(values: &[u64]) -> Cutting
     requires { (length values.now ≤ most_items) × (total values.now ≤ greatest_sum) }
-    ensures { result ≡ outcome (accepted (whole_cut 1 values.now)) }
+    ensures { result ≡ stored (whole_cut 1 values.now) }
 {
-    Outcome {
-        answer: Answer::Share(mean(values, 1)),
+    Cutting {
+        figure: Figure::Share(mean(values, 1)),
         partition: all_in_first(values.len()),
         count: 1,
     }
@@ -121,16 +103,13 @@ fn is_enough(allowance: u32, items: usize, bundles: usize) -> bool
     requires { (1 ≤ bundles) × (bundles ≤ most_agents) × (items ≤ most_items) }
     ensures { result ≡ leb (growths bundles items) allowance }
 {
-    if MOST <= allowance {
-        return true;
-    }
-    count(items, bundles) <= allowance
+    MOST <= allowance || count(items, bundles) <= allowance
 }
 
 // The cut of the values in `bundles` bundles, as far as the allowance goes.
-fn cut_values(values: &[u64], bundles: usize, allowance: u32) -> Outcome
+fn cut_values(values: &[u64], bundles: usize, allowance: u32) -> Cutting
     requires { Allowed values.now bundles allowance }
-    ensures { result ≡ outcome (accepted (found bundles values.now allowance)) }
+    ensures { result ≡ stored (found bundles values.now allowance) }
 {
     if bundles == 1 {
         return cut_in_one(values);
@@ -143,22 +122,20 @@ fn cut_values(values: &[u64], bundles: usize, allowance: u32) -> Outcome
 
 // The share of the items of `set` in `bundles` bundles, by the values of `valuation`, and the first partition in dictionary order
 // that reaches it, with the number of growth partitions; or, where these outnumber the allowance, stopped: the best least bundle among
-// the first so many, and the first partition of those that reaches it. Refused with 4 where the bundles lie outside the limits, else
-// with 5 where the set names an item above the last, else with 14 where the allowance is 0.
-pub fn cut(valuation: Row, set: u16, bundles: usize, allowance: u32) -> Outcome
-    ensures { result ≡ outcome (cutting valuation set bundles allowance) }
+// the first so many, and the first partition of those that reaches it. Refused where the bundles lie outside the limits, else where the
+// set names an item above the last, else where the allowance is 0.
+pub fn cut(valuation: Row, set: u16, bundles: usize, allowance: u32) -> Result<Cutting, Refusal>
+    ensures { answer_of result ≡ map_answer stored (cutting valuation set bundles allowance) }
 {
     if !is_within(bundles, Sheet::AGENTS) {
-        return refuse(4);
+        return Err(Refusal::AgentsOutside);
     }
     if Sheet::SETS <= set {
-        return refuse(5);
+        return Err(Refusal::ItemsOutside);
     }
-    if allowance < 1 {
-        return refuse(14);
+    if allowance == 0 {
+        return Err(Refusal::AllowanceTooSmall);
     }
     let chosen = values_of(valuation, set);
-    let values = chosen.values;
-    let count = chosen.count;
-    cut_values(&values[..count], bundles, allowance)
+    Ok(cut_values(chosen.as_slice(), bundles, allowance))
 }

@@ -22,12 +22,10 @@ fn lightest(loads: &Loads, bundles: usize) -> usize
     ensures { result < bundles }
 {
     let mut light: usize = 0;
-    let mut i: usize = 1;
-    while i < bundles {
+    for i in 1..bundles {
         if loads[i] < loads[light] {
             light = i;
         }
-        i += 1;
     }
     light
 }
@@ -38,11 +36,9 @@ pub(crate) fn deal(values: &[u64], bundles: usize) -> u64
     ensures { result ≤ maximin_share bundles values.now }
 {
     let mut loads = [0u64; Sheet::AGENTS];
-    let mut i: usize = 0;
-    while i < values.len() {
+    for value in values {
         let light = lightest(&loads, bundles);
-        loads[light] = loads[light] + values[i];
-        i += 1;
+        loads[light] += *value;
     }
     least(&loads, bundles)
 }

@@ -6,7 +6,7 @@ ghost use Rattle.sheet.specs.Answers.{after};
 ghost use Rattle.cut.specs.Outcome.{cutting};
 ghost use Rattle.cut_c.specs.Lent.{kind_of, store_figure, store_partition, store_count};
 
-use cut::Answer;
+use cut::Figure;
 use sheet::{Row, Sheet};
 
 // What a cut that its allowance stopped answers: no refusal has this number.
@@ -30,23 +30,22 @@ pub extern "C" fn cut_row(
     ensures partition { partition.new ≡ after store_partition (cutting marks.now set bundles allowance) partition.old }
     ensures count { count.new ≡ after store_count (cutting marks.now set bundles allowance) count.old }
 {
-    let outcome = cut::cut(*marks, set, bundles, allowance);
-    let answer = outcome.answer;
-    let reached = outcome.partition;
-    let looked_at = outcome.count;
-    match answer {
-        Answer::Refused(number) => number,
-        Answer::Share(share) => {
-            *figure = share;
+    match cut::cut(*marks, set, bundles, allowance) {
+        Ok(found) => {
+            let reached = found.partition;
             *partition = reached;
-            *count = looked_at;
-            0
+            *count = found.count;
+            match found.figure {
+                Figure::Share(share) => {
+                    *figure = share;
+                    0
+                }
+                Figure::Stopped(least) => {
+                    *figure = least;
+                    STOPPED
+                }
+            }
         }
-        Answer::Stopped(least) => {
-            *figure = least;
-            *partition = reached;
-            *count = looked_at;
-            STOPPED
-        }
+        Err(refusal) => refusal.number(),
     }
 }

@@ -2,7 +2,7 @@
 // or where the cut was stopped, with its partition and the number of growth partitions, or the refusal.
 #![tactic(auto)]
 
-use cut::{Answer, Partition};
+use cut::{Cutting, Figure, Partition};
 use sheet::{Mark, Row, Sheet};
 use std::io;
 
@@ -83,33 +83,13 @@ fn first_player(rt: &impl Print, row: Row) -> io::Result<()> {
     show(rt, row, ALL, 3, ENOUGH)
 }
 
-fn print(rt: &impl Print, text: &[u8]) -> io::Result<()> {
-    rt.write_all(text)
-}
-
-// A text and a number behind it.
-fn print_field(rt: &impl Print, text: &[u8], n: u64) -> io::Result<()> {
-    print(rt, text)?;
-    rt.print(n)
-}
-
-fn print_mark(rt: &impl Print, mark: Mark) -> io::Result<()> {
-    print_field(rt, b" ", mark as u64)
-}
-
-fn print_place(rt: &impl Print, bundle: u8) -> io::Result<()> {
-    print_field(rt, b" ", bundle as u64)
-}
-
 // The marks of a row.
 fn show_row(rt: &impl Print, row: Row) -> io::Result<()> {
-    print(rt, b"marks")?;
-    let mut i: usize = 0;
-    while i < Sheet::ITEMS {
-        print_mark(rt, row[i])?;
-        i += 1;
+    print!(rt; "marks")?;
+    for mark in &row {
+        print!(rt; " {mark}")?;
     }
-    print(rt, b"\n")
+    println!(rt;)
 }
 
 fn show(
@@ -119,28 +99,29 @@ fn show(
     bundles: usize,
     allowance: u32,
 ) -> io::Result<()> {
-    print_field(rt, b"set ", set as u64)?;
-    print_field(rt, b" into ", bundles as u64)?;
-    print_field(rt, b", allowed ", allowance as u64)?;
-    let outcome = cut::cut(valuation, set, bundles, allowance);
-    let answer = outcome.answer;
-    let partition = outcome.partition;
-    match answer {
-        Answer::Refused(number) => print_field(rt, b": refused ", number as u64)?,
-        Answer::Share(share) => print_field(rt, b": share ", share)?,
-        Answer::Stopped(least) => print_field(rt, b": stopped ", least)?,
+    print!(rt; "set {set} into {bundles}, allowed {allowance}: ")?;
+    match cut::cut(valuation, set, bundles, allowance) {
+        Ok(found) => show_found(rt, found),
+        Err(refusal) => {
+            print!(rt; "refused {}", refusal.number())?;
+            show_partition(rt, 0, [0; Sheet::ITEMS])
+        }
     }
-    print_field(rt, b", looked at ", outcome.count as u64)?;
-    show_partition(rt, partition)
 }
 
-// The places of a partition, those not in use too.
-fn show_partition(rt: &impl Print, partition: Partition) -> io::Result<()> {
-    print(rt, b", layout")?;
-    let mut i: usize = 0;
-    while i < Sheet::ITEMS {
-        print_place(rt, partition[i])?;
-        i += 1;
+fn show_found(rt: &impl Print, found: Cutting) -> io::Result<()> {
+    match found.figure {
+        Figure::Share(share) => print!(rt; "share {share}")?,
+        Figure::Stopped(least) => print!(rt; "stopped {least}")?,
     }
-    print(rt, b"\n")
+    show_partition(rt, found.count, found.partition)
+}
+
+// How many growth partitions were looked at, and the places of a partition, those not in use too.
+fn show_partition(rt: &impl Print, count: u32, partition: Partition) -> io::Result<()> {
+    print!(rt; ", looked at {count}, layout")?;
+    for bundle in &partition {
+        print!(rt; " {bundle}")?;
+    }
+    println!(rt;)
 }

@@ -7,7 +7,7 @@ ghost use Rattle.growth.specs.Growth.{growths};
 ghost use Rattle.growth.specs.Counts.{count_row, count_table};
 ghost use Rattle.growth.specs.internal.Rows.{next_row, NextFits};
 
-use sheet::{Sheet, lesser};
+use sheet::Sheet;
 
 // The most growth partitions that a cut within the limits has: those of twelve items into six bundles.
 pub const MOST: u32 = 3403127;
@@ -27,10 +27,8 @@ fn first_row(bundles: usize) -> CountRow
     ensures { result ≡ count_row bundles 0 }
 {
     let mut row = [0u32; USED];
-    let mut used: usize = 0;
-    while used <= bundles {
+    for used in 0..bundles + 1 {
         row[used] = 1;
-        used += 1;
     }
     row
 }
@@ -41,10 +39,8 @@ fn next_row(row: CountRow) -> CountRow
     ensures { result ≡ next_row row }
 {
     let mut next = [0u32; USED];
-    let mut used: usize = 0;
-    while used <= Sheet::AGENTS {
+    for used in 0..Sheet::AGENTS + 1 {
         next[used] = used as u32 * row[used] + row[used + 1];
-        used += 1;
     }
     next
 }
@@ -53,18 +49,12 @@ fn next_row(row: CountRow) -> CountRow
 pub fn counts_for(items: usize, bundles: usize) -> Counts
     ensures { result ≡ count_table (min bundles most_agents) (min items most_items) }
 {
-    let last = lesser(items, Sheet::ITEMS);
-    let most = lesser(bundles, Sheet::AGENTS);
+    let last = items.min(Sheet::ITEMS);
+    let most = bundles.min(Sheet::AGENTS);
     let mut counts = [[0u32; USED]; Sheet::ITEMS + 1];
-    let first = first_row(most);
-    counts[0] = first;
-    let mut row = first;
-    let mut left: usize = 0;
-    while left < last {
-        let next = next_row(row);
-        counts[left + 1] = next;
-        row = next;
-        left += 1;
+    counts[0] = first_row(most);
+    for left in 0..last {
+        counts[left + 1] = next_row(counts[left]);
     }
     counts
 }
@@ -73,12 +63,9 @@ pub fn counts_for(items: usize, bundles: usize) -> Counts
 pub fn count(items: usize, bundles: usize) -> u32
     ensures { result ≡ growths (min bundles most_agents) (min items most_items) }
 {
-    let last = lesser(items, Sheet::ITEMS);
-    let mut row = first_row(lesser(bundles, Sheet::AGENTS));
-    let mut laid: usize = 0;
-    while laid < last {
+    let mut row = first_row(bundles.min(Sheet::AGENTS));
+    for _laid in 0..items.min(Sheet::ITEMS) {
         row = next_row(row);
-        laid += 1;
     }
     row[0]
 }

@@ -13,7 +13,7 @@ ghost use Rattle.printed_division.specs.OutcomeText.{outcome_text};
 use division::{Outcome, divide};
 use printed_division::put_division;
 use sheet::{Sheet, Table};
-use writing::{Answer, fill};
+use writing::{Answer, Writer, fill};
 
 // The most bytes of the head.
 const LONGEST_HEAD: usize = 43;
@@ -40,8 +40,9 @@ fn print_outcome(agents: usize, items: usize, outcome: Outcome, buffer: &mut [u8
     ensures buffer { buffer.new ≡ after filled (filling (length buffer.old) (outcome_text agents items outcome)) buffer.old }
 {
     let mut text = [0u8; LONGEST];
-    let length = put_division(&mut text, agents, items, outcome);
-    fill(&text[..length], buffer)
+    let mut writer = Writer::new(&mut text);
+    put_division(&mut writer, agents, items, outcome);
+    fill(writer.written(), buffer)
 }
 
 // Divides a sheet with an allowance and prints the division from the front of the buffer. Refused as by

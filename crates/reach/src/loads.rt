@@ -3,7 +3,7 @@ ghost use Rattle.std.specs.Prelude.{◌≡◌};
 ghost use Rattle.lists.specs.Sums.{least_of};
 ghost use Rattle.reach.specs.Loads.{load_of, limited_bundles};
 
-use sheet::{Sheet, lesser};
+use sheet::Sheet;
 
 // The sum of the values on each bundle.
 pub type Loads = [u64; Sheet::AGENTS];
@@ -12,14 +12,9 @@ pub type Loads = [u64; Sheet::AGENTS];
 pub fn least(loads: &Loads, bundles: usize) -> u64
     ensures { result ≡ least_of (load_of loads.now) (limited_bundles bundles) }
 {
-    let last = lesser(bundles, Sheet::AGENTS);
     let mut low = loads[0];
-    let mut i: usize = 1;
-    while i < last {
-        if loads[i] < low {
-            low = loads[i];
-        }
-        i += 1;
+    for i in 1..bundles.min(Sheet::AGENTS) {
+        low = low.min(loads[i]);
     }
     low
 }

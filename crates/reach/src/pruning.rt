@@ -8,31 +8,14 @@ ghost use Rattle.reach.specs.Pruning.{counted_supply, demand, needed_by, is_shor
 use crate::loads::Loads;
 use sheet::Sheet;
 
-// The lesser of two numbers.
-pub fn lesser(a: u64, b: u64) -> u64
-    ensures { result ≡ min a b }
-{
-    if a < b { a } else { b }
-}
-
-// A number, and at least 1.
-fn at_least_one(n: u64) -> u64
-    ensures { result ≡ max 1 n }
-{
-    if n < 1 { 1 } else { n }
-}
-
 // The sum of the values, each counted up to `most`. Their number is cut to the items of a sheet, and `most` to one above its greatest sum.
 pub fn supplied(values: &[u64], most: u64) -> u64
     ensures { result ≡ counted_supply most values.now }
 {
-    let last = sheet::lesser(values.len(), Sheet::ITEMS);
-    let threshold = lesser(most, Sheet::GREATEST_SUM + 1);
+    let threshold = most.min(Sheet::GREATEST_SUM + 1);
     let mut sum: u64 = 0;
-    let mut i: usize = 0;
-    while i < last {
-        sum += lesser(values[i], threshold);
-        i += 1;
+    for value in &values[..values.len().min(Sheet::ITEMS)] {
+        sum += (*value).min(threshold);
     }
     sum
 }
@@ -43,17 +26,12 @@ fn lacks_more(loads: &Loads, bundles: usize, goal: u64, most: u64, amount: u64) 
     ensures { result ≡ ltb amount (demand goal (load_of loads.now) bundles most) }
 {
     let mut left = amount;
-    let mut i: usize = 0;
-    while i < bundles {
-        let load = loads[i];
-        if load < goal {
-            let due = lesser(goal - load, most);
-            if left < due {
-                return true;
-            }
-            left -= due;
+    for load in &loads[..bundles] {
+        let lack = goal.saturating_sub(*load).min(most);
+        if left < lack {
+            return true;
         }
-        i += 1;
+        left -= lack;
     }
     false
 }
@@ -64,16 +42,11 @@ fn is_short(values: &[u64], loads: &Loads, bundles: usize, goal: u64) -> bool
     requires { bundles ≤ most_agents }
     ensures { result ≡ is_short goal (load_of loads.now) bundles values.now }
 {
-    let mut i: usize = 0;
-    while i < bundles {
-        let load = loads[i];
-        if load < goal {
-            let most = goal - load;
-            if lacks_more(loads, bundles, goal, most, supplied(values, most)) {
-                return true;
-            }
+    for load in &loads[..bundles] {
+        let most = goal.saturating_sub(*load);
+        if lacks_more(loads, bundles, goal, most, supplied(values, most)) {
+            return true;
         }
-        i += 1;
     }
     false
 }
@@ -84,17 +57,12 @@ fn needs_more(loads: &Loads, bundles: usize, goal: u64, most: u64, count: u64) -
     ensures { result ≡ ltb count (needed_by goal (load_of loads.now) bundles most) }
 {
     let mut left = count;
-    let mut i: usize = 0;
-    while i < bundles {
-        let load = loads[i];
-        if load < goal {
-            let due = (goal - load - 1) / most;
-            if left <= due {
-                return true;
-            }
-            left -= due + 1;
+    for load in &loads[..bundles] {
+        let due = goal.saturating_sub(*load).div_ceil(most);
+        if left < due {
+            return true;
         }
-        i += 1;
+        left -= due;
     }
     false
 }
@@ -111,13 +79,8 @@ pub fn is_out_of_reach(
 ) -> bool
     ensures { result ≡ is_out_of_reach ceiling goal (load_of loads.now) (min bundles most_agents) values.now (max 1 most) }
 {
-    if ceiling < goal {
-        return true;
-    }
-    let last = sheet::lesser(bundles, Sheet::AGENTS);
-    let greatest = at_least_one(most);
-    if needs_more(loads, last, goal, greatest, values.len() as u64) {
-        return true;
-    }
-    is_short(values, loads, last, goal)
+    let last = bundles.min(Sheet::AGENTS);
+    ceiling < goal
+        || needs_more(loads, last, goal, most.max(1), values.len() as u64)
+        || is_short(values, loads, last, goal)
 }

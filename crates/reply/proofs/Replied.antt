@@ -9,17 +9,19 @@ use Rattle.text.proofs.Decimal.{decimal-length}
 use Rattle.sheet.specs.Answers.{Answer, refused, accepted, after}
 use Rattle.writing.specs.Answered.{answered}
 use Rattle.writing.specs.Filled.{filled}
-use Rattle.writing.specs.Output.{output, Written}
+use Rattle.writing.specs.declared.Writer.{Writer}
+use Rattle.writing.specs.Output.{output}
+use Rattle.writing.specs.WithText.{Writes}
 use Rattle.writing.proofs.Written.{written-within}
-use Rattle.writing.proofs.Filled.{written-whole, filled-front}
+use Rattle.writing.proofs.Filled.{output-whole, filled-front}
 use Rattle.reply.specs.Replies.{refusal_line, longest_refusal, OneByteRefusal, replied, reply_into, Front}
 
 -- what is within a buffer is a front of it
 pub within-front : (n : ℕ) (bytes : List ℕ) → n ≤ length bytes → Front n bytes
 within-front n bytes inside = (inside, omega (arith, length-take n bytes))
 
-pub written-front : {old text new : List ℕ} {next : ℕ} → Written (output old 0) text (output new next) → Front next new
-written-front {old} {text} {new} {next} w = within-front next new (written-within w)
+pub written-front : {u w : Writer} {text : List ℕ} → Writes u text w → u.at ≡ 0 → Front w.at w.buffer.now
+written-front {u} {w} written front = within-front w.at w.buffer.now (written-within written front)
 
 -- the line of a number of one byte
 pub length-refusal_line : (number : ℕ) → number < 256 → length (refusal_line number) ≤ longest_refusal
@@ -37,5 +39,5 @@ pub replied-front : (a : Answer (List ℕ)) (old : List ℕ) {lent new : List �
     → lent ≡ after filled a old → output new r ≡ reply_into (answered a) lent → take r new ≡ replied a
 replied-front (refused number) old {lent} {new} {r} below room kept e =
     let whole : length (refusal_line number) ≤ length lent = omega (arith, ap length kept, length-refusal_line number (below.below number refl)) in
-    (written-whole {old = lent} (record { bytewise = e }) whole).front
+    (output-whole lent (refusal_line number) _ _ e whole).front
 replied-front (accepted text) old below room kept e = text-front text old kept e

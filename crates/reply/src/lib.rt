@@ -2,19 +2,19 @@
 #![tactic(auto)]
 
 ghost use Rattle.std.specs.Prelude.{◌≡◌};
-ghost use Rattle.writing.specs.Output.{output, Written};
+ghost use Rattle.writing.specs.Output.{output};
+ghost use Rattle.writing.specs.WithText.{Writes};
 ghost use Rattle.reply.specs.Replies.{refusal_line, reply_into, Front};
 ghost use Rattle.reply.specs.Stored.{number_answered, length_answered};
 
-use sheet::lesser;
-use writing::Answer;
+use writing::{Answer, Writer};
 
-// The line of a refusal from the front of the buffer on, as far as there is room; returns how many bytes of it there are.
-fn put_refusal(buffer: &mut [u8], number: u8) -> usize
-    ensures { Written (output buffer.old 0) (refusal_line number) (output buffer.new result) }
+// The line of a refusal, as far as there is room.
+fn put_refusal(writer: &mut Writer, number: u8)
+    ensures { Writes writer.old (refusal_line number) writer.new }
 {
-    let next = writing::put_field(buffer, 0, b"(refused ", number as u64);
-    writing::put_bytes(buffer, next, b")\n")
+    writer.field(b"(refused ", u64::from(number));
+    writer.bytes(b")\n");
 }
 
 // What a program writes for an answer about its lent buffer: puts the line of a refusal at the front of the buffer, leaves the buffer
@@ -24,8 +24,12 @@ pub fn reply(answer: Answer, buffer: &mut [u8]) -> usize
     ensures within { Front result buffer.new }
 {
     match answer {
-        Answer::Refused(number) => put_refusal(buffer, number),
-        Answer::Written(length) => lesser(length, buffer.len()),
+        Answer::Refused(number) => {
+            let mut writer = Writer::new(buffer);
+            put_refusal(&mut writer, number);
+            writer.at
+        }
+        Answer::Written(length) => length.min(buffer.len()),
     }
 }
 

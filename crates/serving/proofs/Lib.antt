@@ -1,4 +1,3 @@
--- Laws of short lists in their places, of the parts of a round, and of the searches for who waits and for the bundles of those served.
-pub mod Listing
+-- Laws of the parts of a round, and of the searches for who waits and for the bundles of those served.
 pub mod round
 pub mod searches

@@ -4,7 +4,6 @@ use Rattle.std.specs.Prelude.{Bool, false, List, [], ℕ, ◌%◌, ◌^◌}
 use Rattle.lists.specs.Lists.{nth}
 use Rattle.sheet.specs.Limits.{most_agents}
 use Rattle.sheet.specs.Sets.{items_of, set_of}
-use Rattle.sheet.specs.Listed.{numbered}
 use Rattle.matching.specs.Matching.{waiting_of, served_of, chosen_of}
 use Rattle.serving.specs.declared.Serving.{Serving}
 
@@ -20,7 +19,7 @@ agents_in left = items_of (left % 2 ^ most_agents)
 unfoldable pub serving_of : (ℕ → ℕ → Bool) → ℕ → List ℕ → Serving
 serving_of suits cutter agents =
     record {
-      served = numbered (served_of suits cutter agents);
-      chosen = numbered (chosen_of suits cutter agents);
+      served = served_of suits cutter agents;
+      chosen = chosen_of suits cutter agents;
       waiting = set_of (waiting_of suits cutter agents);
     }

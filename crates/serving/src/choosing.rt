@@ -1,48 +1,43 @@
 // The bundles of the agents served: the first matching of them with the free bundles.
-ghost use Rattle.std.specs.Prelude.{◌≡◌};
-ghost use Rattle.sheet.specs.Listed.{numbered, listed};
+ghost use Rattle.std.specs.Prelude.{◌≡◌, ◌≤◌, length};
+ghost use Rattle.lists.specs.Lists.{Within};
+ghost use Rattle.sheet.specs.Limits.{most_agents, set_bits};
 ghost use Rattle.matching.specs.Matching.{matching};
 ghost use Rattle.serving.specs.Serving.{suits_of};
-ghost use Rattle.serving.specs.internal.Listing.{IsNumbered, OfSheet};
 ghost use Rattle.serving.specs.internal.Searching.{PartialMatching, first_matching};
 
 use crate::Suiting;
 use crate::suiting::is_suited;
-use sheet::listing::{Numbers, append, contains, none};
+use sheet::listing::ShortList;
 
-// The first matching of the agents that begins with the bundles chosen, and no numbers where there is none.
-fn extend(suiting: Suiting, served: Numbers, free: Numbers, chosen: Numbers) -> Numbers
-    requires { OfSheet served × OfSheet free × IsNumbered chosen × PartialMatching (suits_of suiting) (listed served) (listed chosen) }
-    ensures { result ≡ numbered (first_matching (suits_of suiting) (listed served) (listed free) (listed chosen)) }
+// The first matching of the agents that begins with the bundles chosen, and no numbers where there is none, as the definition has it.
+fn extend(suiting: Suiting, served: &[u8], free: &[u8], chosen: ShortList<u8>) -> ShortList<u8>
+    requires agents { Within most_agents served.now }
+    requires bundles { Within most_agents free.now }
+    requires room { length served.now ≤ set_bits }
+    requires begun { PartialMatching (suits_of suiting) served.now chosen }
+    ensures { result ≡ first_matching (suits_of suiting) served.now free.now chosen }
 {
-    let count = chosen.count;
-    if count == served.count {
+    let Some(agent) = served.get(chosen.len()) else {
         return chosen;
-    }
-    let agents = served.numbers;
-    let agent = agents[count];
-    let bundles = free.numbers;
-    let used = chosen.numbers;
-    let mut at: usize = 0;
-    while at < free.count {
-        let bundle = bundles[at];
-        if is_suited(suiting, agent, bundle) {
-            if !contains(used, bundle) {
-                let found = extend(suiting, served, free, append(chosen, bundle));
-                if found.count != 0 {
-                    return found;
-                }
+    };
+    for bundle in free {
+        if is_suited(suiting, *agent, *bundle) && !chosen.as_slice().contains(bundle) {
+            let found = extend(suiting, served, free, chosen.with(*bundle));
+            if !found.as_slice().is_empty() {
+                return found;
             }
         }
-        at += 1;
     }
-    none()
+    ShortList::new()
 }
 
 // The first matching of the agents served with the free bundles: the bundle of each agent.
-pub(crate) fn matched(suiting: Suiting, served: Numbers, free: Numbers) -> Numbers
-    requires { OfSheet served × OfSheet free }
-    ensures { result ≡ numbered (matching (suits_of suiting) (listed served) (listed free)) }
+pub(crate) fn matched(suiting: Suiting, served: &[u8], free: &[u8]) -> ShortList<u8>
+    requires agents { Within most_agents served.now }
+    requires bundles { Within most_agents free.now }
+    requires room { length served.now ≤ set_bits }
+    ensures { result ≡ matching (suits_of suiting) served.now free.now }
 {
-    extend(suiting, served, free, none())
+    extend(suiting, served, free, ShortList::new())
 }

@@ -10,7 +10,7 @@ use crate::served::served;
 use crate::suiting::free;
 use crate::waiting::waiting;
 use sheet::Sheet;
-use sheet::listing::Numbers;
+use sheet::listing::ShortList;
 use sheet::naming::{items_of, set_of};
 
 mod choosing;
@@ -22,10 +22,10 @@ mod waiting;
 pub type Suiting = [[bool; Sheet::AGENTS]; Sheet::AGENTS];
 
 // What one round settles: the agents served, their bundles at the same places, and the set of the agents that wait.
-#[derive(Clone, Copy)]
+#[derive(Drop)]
 pub struct Serving {
-    pub served: Numbers,
-    pub chosen: Numbers,
+    pub served: ShortList<u8>,
+    pub chosen: ShortList<u8>,
     pub waiting: u16,
 }
 
@@ -38,8 +38,7 @@ pub fn cutter_of(left: u16) -> u8
     ensures { result ≡ cutter_of (agents_in left) }
 {
     let agents = items_of(left % AGENT_SETS);
-    let numbers = agents.numbers;
-    numbers[0]
+    agents.as_slice().first().copied().unwrap_or(0)
 }
 
 // One round of the agents left, a set of agents as above, with the one of them who cuts: where the cutter is not one of them, each of them
@@ -48,14 +47,13 @@ pub fn serve(suiting: Suiting, cutter: u8, left: u16) -> Serving
     ensures { result ≡ serving_of (suits_of suiting) cutter (agents_in left) }
 {
     let agents = items_of(left % AGENT_SETS);
-    let waiting = waiting(suiting, cutter, agents);
-    let served = served(waiting, agents);
-    let free = free(suiting, waiting, agents.count);
-    let chosen = matched(suiting, served, free);
-    let waits = waiting.numbers;
+    let waiting = waiting(suiting, cutter, &agents);
+    let waits = waiting.as_slice();
+    let served = served(waits, &agents);
+    let free = free(suiting, waits, agents.len());
     Serving {
+        chosen: matched(suiting, served.as_slice(), free.as_slice()),
         served,
-        chosen,
         waiting: set_of(waits),
     }
 }

@@ -1,14 +1,12 @@
 // Which bundles suit an agent, some agent of a list, and none of them.
 ghost use Rattle.std.specs.Prelude.{◌≡◌, ◌≤◌};
-ghost use Rattle.lists.specs.Lists.{range};
+ghost use Rattle.lists.specs.Lists.{range, Within};
 ghost use Rattle.sheet.specs.Limits.{most_agents};
-ghost use Rattle.sheet.specs.Listed.{numbered, listed};
 ghost use Rattle.matching.specs.Matching.{wanted, free_bundles};
 ghost use Rattle.serving.specs.Serving.{suits_of};
-ghost use Rattle.serving.specs.internal.Listing.{OfSheet};
 
 use crate::Suiting;
-use sheet::listing::{Numbers, append, none};
+use sheet::listing::ShortList;
 
 // Whether the bundle suits the agent.
 pub(crate) fn is_suited(suiting: Suiting, agent: u8, bundle: u8) -> bool
@@ -19,35 +17,26 @@ pub(crate) fn is_suited(suiting: Suiting, agent: u8, bundle: u8) -> bool
 }
 
 // Whether the bundle suits one of the agents.
-fn is_wanted(suiting: Suiting, agents: Numbers, bundle: u8) -> bool
-    requires { OfSheet agents × (1 ≤ bundle) × (bundle ≤ most_agents) }
-    ensures { result ≡ wanted (suits_of suiting) (listed agents) bundle }
+fn is_wanted(suiting: Suiting, agents: &[u8], bundle: u8) -> bool
+    requires { Within most_agents agents.now × (1 ≤ bundle) × (bundle ≤ most_agents) }
+    ensures { result ≡ wanted (suits_of suiting) agents.now bundle }
 {
-    let numbers = agents.numbers;
-    let count = agents.count;
-    let mut i: usize = 0;
-    while i < count {
-        if is_suited(suiting, numbers[i], bundle) {
-            return true;
-        }
-        i += 1;
-    }
-    false
+    agents
+        .iter()
+        .any(|agent| is_suited(suiting, *agent, bundle))
 }
 
 // The bundles of 1 .. bundles that suit none of the agents who wait.
-pub(crate) fn free(suiting: Suiting, waiting: Numbers, bundles: usize) -> Numbers
-    requires { OfSheet waiting × (bundles ≤ most_agents) }
-    ensures { result ≡ numbered (free_bundles (suits_of suiting) (listed waiting) (range 1 bundles)) }
+pub(crate) fn free(suiting: Suiting, waiting: &[u8], bundles: usize) -> ShortList<u8>
+    requires { Within most_agents waiting.now × (bundles ≤ most_agents) }
+    ensures { result ≡ free_bundles (suits_of suiting) waiting.now (range 1 bundles) }
 {
-    let mut left = none();
-    let mut i: usize = 0;
-    while i < bundles {
+    let mut free = ShortList::new();
+    for i in 0..bundles {
         let bundle = i as u8 + 1;
         if !is_wanted(suiting, waiting, bundle) {
-            left = append(left, bundle);
+            free.push(bundle);
         }
-        i += 1;
     }
-    left
+    free
 }

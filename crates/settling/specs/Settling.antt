@@ -4,7 +4,6 @@ use Rattle.lists.specs.Lists.{nth, padded}
 use Rattle.lists.specs.Sums.{total}
 use Rattle.sheet.specs.Limits.{most_agents}
 use Rattle.sheet.specs.Sets.{set_of}
-use Rattle.sheet.specs.Listed.{numbered}
 use Rattle.terms.specs.declared.Terms.{Terms}
 use Rattle.bundling.specs.Bundles.{bundle_sets}
 use Rattle.matching.specs.Matching.{waiting_of, served_of, chosen_of}
@@ -25,7 +24,7 @@ module _ (terms : Terms) (table : List (List ℕ)) (shares : List ℕ) (cutter l
   unfoldable pub settled_by : Settled
   settled_by =
       record {
-        served = numbered (served_of bundle_suits cutter (agents_in left));
+        served = served_of bundle_suits cutter (agents_in left);
         sets = handed_sets;
         waiting = set_of (waiting_of bundle_suits cutter (agents_in left));
         left = set - total handed_sets;

@@ -11,12 +11,9 @@ pub(crate) fn chosen_sets(sets: Sets, chosen: &[u8]) -> Sets
     requires { Within most_agents chosen.now × (length chosen.now ≤ most_agents) }
     ensures { result ≡ padded most_agents 0 (map (nth 0 sets) chosen.now) }
 {
-    let mut handed: Sets = [0; Sheet::AGENTS];
-    let mut i: usize = 0;
-    while i < chosen.len() {
-        let bundle = chosen[i] as usize;
-        handed[i] = sets[bundle - 1];
-        i += 1;
+    let mut handed = [0; Sheet::AGENTS];
+    for (i, bundle) in chosen.iter().enumerate() {
+        handed[i] = sets[*bundle as usize - 1];
     }
     handed
 }
@@ -25,15 +22,7 @@ pub(crate) fn chosen_sets(sets: Sets, chosen: &[u8]) -> Sets
 pub(crate) fn left_of(set: u16, handed: Sets) -> u16
     ensures { result ≡ set - total handed }
 {
-    let mut left = set;
-    let mut i: usize = 0;
-    while i < Sheet::AGENTS {
-        let taken = handed[i];
-        if left < taken {
-            return 0;
-        }
-        left -= taken;
-        i += 1;
-    }
-    left
+    handed
+        .iter()
+        .fold(set, |left, taken| left.saturating_sub(*taken))
 }

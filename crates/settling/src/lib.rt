@@ -10,7 +10,7 @@ use bundling::bundle_sets;
 use cut::Partition;
 use serving::serve;
 use sheet::amounts::Amounts;
-use sheet::listing::Numbers;
+use sheet::listing::ShortList;
 use sheet::{Sets, Table};
 use terms::Terms;
 
@@ -19,9 +19,9 @@ mod suiting;
 
 // What one round settles: the agents served with the sets of their bundles at the same places, the set of the agents that wait, and the
 // set of the items left.
-#[derive(Clone, Copy)]
+#[derive(Drop)]
 pub struct Settled {
-    pub served: Numbers,
+    pub served: ShortList<u8>,
     pub sets: Sets,
     pub waiting: u16,
     pub left: u16,
@@ -43,13 +43,9 @@ pub fn settle_round(
     let sets = bundle_sets(set, partition);
     let suiting = suits_table(table, shares, terms, sets);
     let round = serve(suiting, cutter, left);
-    let chosen = round.chosen;
-    let numbers = chosen.numbers;
-    let count = chosen.count;
-    let handed = chosen_sets(sets, &numbers[..count]);
-    let served = round.served;
+    let handed = chosen_sets(sets, round.chosen.as_slice());
     Settled {
-        served,
+        served: round.served,
         sets: handed,
         waiting: round.waiting,
         left: left_of(set, handed),

@@ -13,11 +13,7 @@ use terms::Terms;
 fn set_suits(valuation: Row, share: u64, terms: Terms, set: u16) -> bool
     ensures { result ≡ set_suits terms valuation share set }
 {
-    let margin = margin_of(terms, value_of(valuation, set), share);
-    if margin < 0 {
-        return false;
-    }
-    true
+    margin_of(terms, value_of(valuation, set), share) >= 0
 }
 
 // Which of the sets suit an agent with this valuation and share, by the terms.
@@ -25,10 +21,8 @@ fn suits_row(valuation: Row, share: u64, terms: Terms, sets: Sets) -> [bool; She
     ensures { result ≡ suits_row terms valuation share sets }
 {
     let mut row = [false; Sheet::AGENTS];
-    let mut i: usize = 0;
-    while i < Sheet::AGENTS {
+    for i in 0..Sheet::AGENTS {
         row[i] = set_suits(valuation, share, terms, sets[i]);
-        i += 1;
     }
     row
 }
@@ -38,11 +32,8 @@ pub(crate) fn suits_table(table: Table, shares: Amounts, terms: Terms, sets: Set
     ensures { result ≡ suits_table terms table shares sets }
 {
     let mut suiting = [[false; Sheet::AGENTS]; Sheet::AGENTS];
-    let mut i: usize = 0;
-    while i < Sheet::AGENTS {
-        let valuation = table[i];
-        suiting[i] = suits_row(valuation, shares[i], terms, sets);
-        i += 1;
+    for i in 0..Sheet::AGENTS {
+        suiting[i] = suits_row(table[i], shares[i], terms, sets);
     }
     suiting
 }

@@ -15,7 +15,7 @@ ghost use Rattle.shares.specs.Stored.{stored};
 ghost use Rattle.shares.specs.Known.{SharesIn};
 ghost use Rattle.shares.specs.internal.OwnCuts.{own_cut};
 
-use cut::Partition;
+use cut::{Figure, Partition};
 use sheet::amounts::Amounts;
 use sheet::naming::all_items;
 use sheet::refusal::Refusal;
@@ -42,22 +42,14 @@ fn own_cut(valuation: Row, items: usize, bundles: usize, allowance: u32) -> OwnC
     ensures own { result ≡ own_cut bundles (all_values items valuation) }
     ensures bound { result.share ≤ greatest_sum }
 {
-    let cut::Outcome {
-        answer,
-        partition,
-        ..
-    } = cut::cut(valuation, all_items(items), bundles, allowance);
-    match answer {
-        cut::Answer::Share(share) => OwnCut { share, partition },
-        cut::Answer::Stopped(_) => OwnCut {
-            share: 0,
-            partition,
-        },
-        cut::Answer::Refused(_) => OwnCut {
-            share: 0,
-            partition,
-        },
-    }
+    let Ok(cutting) = cut::cut(valuation, all_items(items), bundles, allowance) else {
+        unreachable!()
+    };
+    let Figure::Share(share) = cutting.figure else {
+        unreachable!()
+    };
+    let partition = cutting.partition;
+    OwnCut { share, partition }
 }
 
 // The share and the cut of each agent: over all items, in as many bundles as there are agents, and with an allowance that stops no cut.

@@ -1,3 +1,2 @@
--- Short lists in their places.
-pub mod Listed
-pub mod Kept
+-- Short lists, and the library's words for what the code asks of one.
+pub mod Entries

@@ -3,7 +3,7 @@ ghost use Rattle.std.specs.Prelude.{◌≡◌, min};
 ghost use Rattle.sheet.specs.Limits.{most_agents};
 ghost use Rattle.sheet.specs.Amounts.{each_at_most};
 
-use crate::{Sheet, lesser};
+use crate::Sheet;
 
 // An amount for each agent.
 pub type Amounts = [u64; Sheet::AGENTS];
@@ -12,13 +12,5 @@ pub type Amounts = [u64; Sheet::AGENTS];
 pub fn each_at_most(low: Amounts, high: Amounts, agents: usize) -> bool
     ensures { result ≡ each_at_most low high (min agents most_agents) }
 {
-    let last = lesser(agents, Sheet::AGENTS);
-    let mut i: usize = 0;
-    while i < last {
-        if high[i] < low[i] {
-            return false;
-        }
-        i += 1;
-    }
-    true
+    (0..agents.min(Sheet::AGENTS)).all(|i| low[i] <= high[i])
 }

@@ -1,53 +1,73 @@
-// Short lists of numbers, as arrays with a count.
-ghost use Rattle.std.specs.Prelude.{◌≡◌, []};
-ghost use Rattle.lists.specs.Lists.{elem};
-ghost use Rattle.sheet.specs.Listed.{numbered, appended};
+// Short lists: of items, agents or bundles, or of the values of items.
+ghost use Rattle.std.specs.Prelude.{◌≡◌, ◌≤◌, List, [], ◌∷◌, ◌++◌, length, take};
+ghost use Rattle.sheet.specs.Limits.{set_bits};
 
 use crate::Sheet;
+use std::marker::Model;
 
-// Numbers of items, agents or bundles, as many as a set can name at most; 0 after the last.
-#[derive(Clone, Copy)]
-pub struct Numbers {
-    pub count: usize,
-    pub numbers: [u8; Sheet::SET_BITS],
+// A list of at most as many entries as a set can name. The library's ArrayVec has no copy that cannot fail.
+#[derive(Drop)]
+pub struct ShortList<T: Copy> {
+    places: [T; Sheet::SET_BITS],
+    len: usize,
 }
 
-// No numbers.
-pub fn none() -> Numbers
-    ensures { result ≡ numbered [] }
-{
-    Numbers {
-        count: 0,
-        numbers: [0; Sheet::SET_BITS],
-    }
+impl<T: Copy> Model for ShortList<T> {
+    ghost Value = { List T };
+
+    ghost view = { λ l. take l.len l.places };
+
+    ghost invariant = { λ l. l.len ≤ set_bits };
 }
 
-// The numbers with one more at the end, where there is room.
-pub fn append(list: Numbers, number: u8) -> Numbers
-    ensures { result ≡ appended list number }
-{
-    let count = list.count;
-    if count < Sheet::SET_BITS {
-        let mut numbers = list.numbers;
-        numbers[count] = number;
-        return Numbers {
-            count: count + 1,
-            numbers,
-        };
-    }
-    list
-}
-
-// Whether the number stands in one of sixteen places.
-pub fn contains(numbers: [u8; Sheet::SET_BITS], number: u8) -> bool
-    ensures { result ≡ elem number numbers }
-{
-    let mut i: usize = 0;
-    while i < Sheet::SET_BITS {
-        if number == numbers[i] {
-            return true;
+impl<T: Copy + Default> ShortList<T> {
+    // The list with no entry.
+    pub fn new() -> Self
+        ensures { result ≡ [] }
+    {
+        ShortList {
+            places: [T::default(); Sheet::SET_BITS],
+            len: 0,
         }
-        i += 1;
     }
-    false
+}
+
+impl<T: Copy> ShortList<T> {
+    // The entries.
+    pub fn as_slice(&self) -> &[T]
+        ensures same { result.now ≡ self.now }
+        ensures few { length result.now ≤ set_bits }
+    {
+        &self.places[..self.len]
+    }
+
+    // The number of entries.
+    pub fn len(&self) -> usize
+        ensures count { result ≡ length self.now }
+        ensures few { length self.now ≤ set_bits }
+    {
+        self.as_slice().len()
+    }
+
+    // One entry more at the end, where there is room.
+    pub fn push(&mut self, entry: T)
+        ensures { self.new ≡ take set_bits (self.old ++ entry ∷ []) }
+    {
+        if self.len < Sheet::SET_BITS {
+            self.places[self.len] = entry;
+            self.len += 1;
+        }
+    }
+
+    // The list with one entry more at the end, where there is room.
+    pub fn with(&self, entry: T) -> Self
+        ensures { result ≡ take set_bits (self.now ++ entry ∷ []) }
+    {
+        let mut longer = ShortList {
+            places: self.places,
+            len: self.len,
+        };
+        longer.push(entry);
+        longer
+    }
 }

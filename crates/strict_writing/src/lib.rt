@@ -10,7 +10,7 @@ ghost use Rattle.strict_text.specs.StrictText.{strict_text};
 
 use crate::lines::put_sheet;
 use sheet::{Sheet, Table};
-use writing::Answer;
+use writing::{Answer, Writer};
 
 pub mod lines;
 
@@ -28,7 +28,9 @@ fn sheet_length(table: Table, sheet: Sheet) -> usize
     ensures { result ≡ length (strict_text (contents sheet table)) }
 {
     let mut place = [0u8; LONGEST_OF_ANY];
-    put_sheet(&mut place, 0, table, sheet)
+    let mut writer = Writer::new(&mut place);
+    put_sheet(&mut writer, table, sheet);
+    writer.at
 }
 
 // Writes the strict text of a sheet from the front of the buffer; refused with 10 where the buffer is shorter than the
@@ -41,6 +43,7 @@ pub fn write_sheet(table: Table, sheet: Sheet, buffer: &mut [u8]) -> Answer
     if buffer.len() < length {
         return Answer::Refused(10);
     }
-    put_sheet(buffer, 0, table, sheet);
+    let mut writer = Writer::new(buffer);
+    put_sheet(&mut writer, table, sheet);
     Answer::Written(length)
 }

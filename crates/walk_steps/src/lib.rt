@@ -2,13 +2,12 @@
 // looks at and of a branch that it passes over.
 #![tactic(auto)]
 
-ghost use Rattle.std.specs.Prelude.{◌≡◌, ◌+◌, min, max};
+ghost use Rattle.std.specs.Prelude.{◌≡◌, ◌+◌, min};
 ghost use Rattle.sheet.specs.Limits.{most_agents, most_items, greatest_sum};
 ghost use Rattle.walk_steps.specs.Scan.{looking, passing};
 ghost use Rattle.walk_steps.specs.Branches.{count_at, is_wasted};
 
 use growth::Counts;
-use reach::pruning::lesser;
 use sheet::Sheet;
 
 // The bundle of each item of the set in rising order, 0 after the last.
@@ -32,70 +31,50 @@ pub struct Search {
 pub fn open_bundles(used: usize, bundles: usize) -> usize
     ensures { result ≡ min (used + 1) bundles }
 {
-    if used < bundles { used + 1 } else { bundles }
+    used.saturating_add(1).min(bundles)
 }
 
-// The greater of two numbers.
-pub fn greater(a: usize, b: usize) -> usize
-    ensures { result ≡ max a b }
-{
-    if a < b { b } else { a }
-}
+impl Search {
+    // The search once it looked at the partition, whose least bundle is `least`, counted up to the ceiling and the greatest sum of a sheet:
+    // that is the best where it reaches the goal. An allowance that is spent looks at nothing.
+    pub fn look(self, least: u64, ceiling: u64, partition: Partition) -> Search
+        ensures { result ≡ looking (min (min least ceiling) greatest_sum) partition self }
+    {
+        if self.allowance == 0 {
+            return self;
+        }
+        let low = least.min(ceiling).min(Sheet::GREATEST_SUM);
+        let best = if self.best.goal <= low {
+            Best {
+                goal: low + 1,
+                partition,
+            }
+        } else {
+            self.best
+        };
+        Search {
+            best,
+            allowance: self.allowance - 1,
+        }
+    }
 
-// The search once it looked at the partition, whose least bundle is `least`, counted up to the ceiling and the greatest sum of a sheet: that
-// is the best where it reaches the goal. An allowance that is spent looks at nothing.
-pub fn look(search: Search, least: u64, ceiling: u64, partition: Partition) -> Search
-    ensures { result ≡ looking (min (min least ceiling) greatest_sum) partition search }
-{
-    if search.allowance < 1 {
-        return search;
+    // The search once the growth partitions of `left` more items, where `used` bundles are in use, are passed over: none reaches the goal.
+    // An allowance that ends among them ends there. The items and the bundles are cut to the limits of a sheet.
+    pub fn pass(self, counts: &Counts, left: usize, used: usize) -> Search
+        ensures { result ≡ passing (count_at counts.now (min left most_items) (min used most_agents)) self }
+    {
+        let count = counts[left.min(Sheet::ITEMS)][used.min(Sheet::AGENTS)];
+        Search {
+            allowance: self.allowance.saturating_sub(count),
+            ..self
+        }
     }
-    let low = lesser(lesser(least, ceiling), Sheet::GREATEST_SUM);
-    let best = search.best;
-    let allowance = search.allowance - 1;
-    if low < best.goal {
-        return Search { best, allowance };
-    }
-    let better = Best {
-        goal: low + 1,
-        partition,
-    };
-    Search {
-        best: better,
-        allowance,
-    }
-}
 
-// The search once the growth partitions of `left` more items, where `used` bundles are in use, are passed over: none reaches the goal.
-// An allowance that ends among them ends there. The items and the bundles are cut to the limits of a sheet.
-pub fn pass(counts: &Counts, left: usize, used: usize, search: Search) -> Search
-    ensures { result ≡ passing (count_at counts.now (min left most_items) (min used most_agents)) search }
-{
-    let best = search.best;
-    let allowance = search.allowance;
-    let items = sheet::lesser(left, Sheet::ITEMS);
-    let bundles = sheet::lesser(used, Sheet::AGENTS);
-    let count = counts[items][bundles];
-    if allowance < count {
-        return Search { best, allowance: 0 };
+    // Whether an item is wasted on a bundle that is in use, not the first, and has the goal already: on the first bundle it serves as well,
+    // and that is tried before.
+    pub fn is_wasted(&self, load: u64, bundle: usize, used: usize) -> bool
+        ensures { result ≡ is_wasted self.now.best.goal load bundle used }
+    {
+        1 <= bundle && bundle < used && self.best.goal <= load
     }
-    Search {
-        best,
-        allowance: allowance - count,
-    }
-}
-
-// Whether an item is wasted on a bundle that is in use, not the first, and has the goal already: on the first bundle it serves as well, and
-// that is tried before.
-pub fn is_wasted(search: Search, load: u64, bundle: usize, used: usize) -> bool
-    ensures { result ≡ is_wasted search.best.goal load bundle used }
-{
-    let best = search.best;
-    if bundle < 1 {
-        return false;
-    }
-    if used <= bundle {
-        return false;
-    }
-    best.goal <= load
 }

@@ -11,10 +11,29 @@ use growth::{Counts, counts_for};
 use reach::loads::{Loads, least};
 use reach::pruning::{is_out_of_reach, supplied};
 use sheet::{Sheet, is_within};
-use walk_steps::{Best, Partition, Search, greater, is_wasted, look, open_bundles, pass};
+use walk_steps::{Best, Partition, Search, open_bundles};
 
 // A number for each item.
 type Values = [u64; Sheet::ITEMS];
+
+// What stays the same on a walk: the number of growth partitions of each branch, the number of bundles, the greatest of the values from each
+// item on, and the ceiling up to which a least bundle counts.
+#[derive(Clone, Copy)]
+struct Walk<'a> {
+    counts: &'a Counts,
+    bundles: usize,
+    greatest: Values,
+    ceiling: u64,
+}
+
+// The first `at` items laid, on the bundles in use.
+#[derive(Clone, Copy)]
+struct Laid {
+    at: usize,
+    used: usize,
+    loads: Loads,
+    partition: Partition,
+}
 
 // In each place the greatest of the values from there on, and at least 1.
 fn greatest_from_each(values: &[u64]) -> Values
@@ -23,87 +42,79 @@ fn greatest_from_each(values: &[u64]) -> Values
 {
     let mut greatest = [1u64; Sheet::ITEMS];
     let mut most: u64 = 1;
-    let mut i = values.len();
-    while 0 < i {
-        i -= 1;
-        if most < values[i] {
-            most = values[i];
-        }
+    for i in (0..values.len()).rev() {
+        most = most.max(values[i]);
         greatest[i] = most;
     }
     greatest
 }
 
-// The search once it went through the growth partitions that go on from the first `at` places of `partition`; the values are still to be
-// laid, `greatest` has the greatest of them from each on, and a least bundle counts up to the ceiling. A branch in which none reaches the
-// goal is left, and the allowance falls by the number of its growth partitions at once.
-fn walk(
-    values: &[u64],
-    counts: &Counts,
-    bundles: usize,
-    at: usize,
-    used: usize,
-    loads: &Loads,
-    partition: &Partition,
-    greatest: &Values,
-    ceiling: u64,
-    search: Search,
-) -> Search
-    requires { Walkable values.now bundles at used loads.now × Counted bundles (length values.now) counts.now × GreatestFrom at values.now greatest.now }
-    ensures { result ≡ walked values.now bundles at used loads.now partition.now ceiling search }
-{
-    if search.allowance == 0 {
-        return search;
-    }
-    if values.len() == 0 {
-        return look(search, least(loads, bundles), ceiling, *partition);
-    }
-    let best = search.best;
-    if is_out_of_reach(values, loads, bundles, greatest[at], ceiling, best.goal) {
-        return pass(counts, values.len(), used, search);
-    }
-    let value = values[0];
-    let rest = &values[1..];
-    let limit = open_bundles(used, bundles);
-    let mut loaded = *loads;
-    let mut longer = *partition;
-    let mut found = search;
-    let mut bundle: usize = 0;
-    while bundle < limit {
-        let opened = greater(used, bundle + 1);
-        let load = loaded[bundle];
-        if is_wasted(found, load, bundle, used) {
-            found = pass(counts, rest.len(), opened, found);
-        } else {
-            let heavier = load + value;
-            loaded[bundle] = heavier;
-            longer[at] = bundle as u8 + 1;
-            found = walk(
-                rest,
-                counts,
-                bundles,
-                at + 1,
-                opened,
-                &loaded,
-                &longer,
-                greatest,
-                ceiling,
-                found,
-            );
-            loaded[bundle] = load;
+impl Walk<'_> {
+    // The search once it went through the growth partitions that go on from the items laid; the values are still to be laid. A branch in which
+    // none reaches the goal is left, and the allowance falls by the number of its growth partitions at once.
+    fn search(&self, values: &[u64], laid: &Laid, search: Search) -> Search
+        requires walkable { Walkable values.now self.now.bundles laid.now.at laid.now.used laid.now.loads }
+        requires counted { Counted self.now.bundles (length values.now) self.now.counts.now }
+        requires greatest { GreatestFrom laid.now.at values.now self.now.greatest }
+        ensures { result ≡ walked values.now self.now.bundles laid.now.at laid.now.used laid.now.loads laid.now.partition self.now.ceiling search }
+    {
+        if search.allowance == 0 {
+            return search;
         }
-        bundle += 1;
+        if values.is_empty() {
+            let low = least(&laid.loads, self.bundles);
+            return search.look(low, self.ceiling, laid.partition);
+        }
+        let most = self.greatest[laid.at];
+        if is_out_of_reach(
+            values,
+            &laid.loads,
+            self.bundles,
+            most,
+            self.ceiling,
+            search.best.goal,
+        ) {
+            return search.pass(self.counts, values.len(), laid.used);
+        }
+        let value = values[0];
+        let rest = &values[1..];
+        let mut next = *laid;
+        next.at = laid.at + 1;
+        let mut found = search;
+        for bundle in 0..open_bundles(laid.used, self.bundles) {
+            let load = laid.loads[bundle];
+            next.used = laid.used.max(bundle + 1);
+            if found.is_wasted(load, bundle, laid.used) {
+                found = found.pass(self.counts, rest.len(), next.used);
+            } else {
+                next.loads[bundle] = load + value;
+                next.partition[laid.at] = bundle as u8 + 1;
+                found = self.search(rest, &next, found);
+                next.loads[bundle] = load;
+            }
+        }
+        found
     }
-    found
 }
 
 // A search that has found nothing yet.
 fn nothing(goal: u64, allowance: u32) -> Search
     ensures { result ≡ start goal allowance }
 {
-    let partition = [0u8; Sheet::ITEMS];
-    let best = Best { goal, partition };
-    Search { best, allowance }
+    let partition = [0; Sheet::ITEMS];
+    Search {
+        best: Best { goal, partition },
+        allowance,
+    }
+}
+
+// Whether values and a number of bundles lie within the limits of a cut.
+fn is_searchable(values: &[u64], bundles: usize) -> bool
+    ensures { result ≡ searchable values.now bundles }
+{
+    is_within(bundles, Sheet::AGENTS)
+        && values.len() <= Sheet::ITEMS
+        && supplied(values, Sheet::GREATEST_SUM + 1) <= Sheet::GREATEST_SUM
 }
 
 // The search from empty bundles, for a partition whose least bundle reaches the goal.
@@ -118,27 +129,19 @@ fn walk_from(
     requires { Walkable values.now bundles 0 0 (zeros most_agents) × Counted bundles (length values.now) counts.now }
     ensures { result ≡ walked_from values.now bundles ceiling goal allowance }
 {
-    let partition = [0u8; Sheet::ITEMS];
-    let loads = [0u64; Sheet::AGENTS];
-    let greatest = greatest_from_each(values);
-    let best = Best { goal, partition };
-    let search = Search { best, allowance };
-    walk(
-        values, counts, bundles, 0, 0, &loads, &partition, &greatest, ceiling, search,
-    )
-}
-
-// Whether values and a number of bundles lie within the limits of a cut.
-fn is_searchable(values: &[u64], bundles: usize) -> bool
-    ensures { result ≡ searchable values.now bundles }
-{
-    if !is_within(bundles, Sheet::AGENTS) {
-        return false;
-    }
-    if Sheet::ITEMS < values.len() {
-        return false;
-    }
-    supplied(values, Sheet::GREATEST_SUM + 1) <= Sheet::GREATEST_SUM
+    let walk = Walk {
+        counts,
+        bundles,
+        greatest: greatest_from_each(values),
+        ceiling,
+    };
+    let laid = Laid {
+        at: 0,
+        used: 0,
+        loads: [0; Sheet::AGENTS],
+        partition: [0; Sheet::ITEMS],
+    };
+    walk.search(values, &laid, nothing(goal, allowance))
 }
 
 // The search of the values, by a table of counts for at least as many items.
@@ -168,13 +171,6 @@ pub fn find(values: &[u64], bundles: usize, ceiling: u64, goal: u64, allowance: 
     find_by(values, &counts, bundles, ceiling, goal, allowance)
 }
 
-// One less, and 0 of 0.
-fn one_less(n: u64) -> u64
-    ensures { result ≡ n - 1 }
-{
-    if n < 1 { 0 } else { n - 1 }
-}
-
 // Two searches, the first over values in an order that is quick to search: the least bundle that it finds is the goal and the ceiling of
 // the search of the values.
 pub fn find_after(
@@ -187,9 +183,8 @@ pub fn find_after(
 ) -> Search
     ensures { result ≡ finding_after ordered.now values.now bundles ceiling goal allowance }
 {
-    let counts = counts_for(greater(ordered.len(), values.len()), bundles);
+    let counts = counts_for(ordered.len().max(values.len()), bundles);
     let first = find_by(ordered, &counts, bundles, ceiling, goal, allowance);
-    let best = first.best;
-    let least = one_less(best.goal);
+    let least = first.best.goal.saturating_sub(1);
     find_by(values, &counts, bundles, least, least, allowance)
 }

@@ -1,4 +1,4 @@
--- Laws of writing: of texts one behind the other, of their lengths, and of a buffer that is filled from its front.
+-- Laws of writing: of the place where a text ends, of the lengths of texts, and of a buffer that is filled from its front.
 pub mod Written
 pub mod Filled
 pub mod Lengths

@@ -11,7 +11,7 @@ use Rattle.maximin.proofs.Laws.{maximin_share-le-mean}
 use Rattle.cut.proofs.sorting.Reordered.{reordered-all}
 use Rattle.cut.proofs.Whole.{found_with}
 use Rattle.cut.proofs.ShareFirst.{same-share, finding-after}
-use Rattle.cut.proofs.Answered.{answered_share, answered-share}
+use Rattle.cut.proofs.Stored.{stored_share, stored-share}
 use Rattle.cut.proofs.cut_by_share.Goals as goal
 use Rattle.cut.proofs.cut_by_share.Goals.{After-deal-goal, After-find_after-end}
 
@@ -55,5 +55,5 @@ overflow_sub-result-2 c = omega (arith, ap (λ found. found.allowance) (walks-fi
 pub returns : goal.returns
 returns c =
     let a = c.args in
-    ap (answered_share a.bundles a.values.now a.allowance) (walks-find (goal.at.returns c).After-find_after-end (deal-below (goal.at.returns c).After-deal-goal))
-    ∙ answered-share a.bundles a.values.now a.allowance c.requires.1
+    ap (stored_share a.bundles a.values.now a.allowance) (walks-find (goal.at.returns c).After-find_after-end (deal-below (goal.at.returns c).After-deal-goal))
+    ∙ stored-share a.bundles a.values.now a.allowance c.requires.1

@@ -2,7 +2,7 @@ use mathlib.Core.Path.{◌≡◌, ap, ◌∙◌}
 use native.Mathlib.Omega.{arith}
 use Rattle.maximin.proofs.Laws.{maximin_share-le-mean}
 use Rattle.cut.proofs.Whole.{best_least, best_partition, found_with, finding-best}
-use Rattle.cut.proofs.Answered.{answered_stopped, answered-stopped}
+use Rattle.cut.proofs.Stored.{stored_stopped, stored-stopped}
 use Rattle.cut.proofs.cut_stopped.Goals as goal
 use Rattle.cut.proofs.cut_stopped.Goals.{After-find-end}
 
@@ -24,5 +24,5 @@ overflow_sub-result-2 c = omega (arith, ap (λ found. found.allowance) (walk-fin
 pub returns : goal.returns
 returns c =
     let a = c.args in
-    ap (answered_stopped a.bundles a.values.now a.allowance) (walk-finds (goal.at.returns c).After-find-end)
-    ∙ answered-stopped a.bundles a.values.now a.allowance c.requires.1
+    ap (stored_stopped a.bundles a.values.now a.allowance) (walk-finds (goal.at.returns c).After-find-end)
+    ∙ stored-stopped a.bundles a.values.now a.allowance c.requires.1

@@ -3,9 +3,8 @@ use Prim.Native.Nat.{◌≤◌, ◌<◌}
 use native.Mathlib.Omega.{arith}
 use lib.ListN.{length}
 use borrow.Author.Tests.{leb-true, leb-false}
-use Rattle.sheet.specs.Answers.{accepted}
 use Rattle.growth.specs.Growth.{growths}
-use Rattle.cut.specs.Outcome.{found, outcome}
+use Rattle.cut.specs.Outcome.{found, stored}
 use Rattle.cut.proofs.Allowance.{found-whole, found-stopped}
 use Rattle.cut.proofs.One.{growths-one}
 use Rattle.cut.proofs.cut_values.Goals as goal
@@ -27,15 +26,15 @@ pub returns-then-bundles-eq1 : goal.returns-then-bundles-eq1
 returns-then-bundles-eq1 c =
     let values = c.args.values.now in
     c.cut_in_one.ensures
-    ∙ ap (λ found. outcome (accepted found)) (sym (found-whole 1 values c.args.allowance (omega (arith, growths-one (length values), c.requires.some_allowance))))
-    ∙ ap (λ n. outcome (accepted (found n values c.args.allowance))) (sym c.if-bundles-eq1.true)
+    ∙ ap stored (sym (found-whole 1 values c.args.allowance (omega (arith, growths-one (length values), c.requires.some_allowance))))
+    ∙ ap (λ n. stored (found n values c.args.allowance)) (sym c.if-bundles-eq1.true)
 
 pub returns-then-is_enough : goal.returns-then-is_enough
 returns-then-is_enough c =
     let a = c.args in
-    c.cut_by_share.ensures ∙ ap (λ found. outcome (accepted found)) (sym (found-whole a.bundles a.values.now a.allowance (enough (goal.at.returns-then-is_enough c).Then-is_enough)))
+    c.cut_by_share.ensures ∙ ap stored (sym (found-whole a.bundles a.values.now a.allowance (enough (goal.at.returns-then-is_enough c).Then-is_enough)))
 
 pub returns : goal.returns
 returns c =
     let a = c.args in
-    c.cut_stopped.ensures ∙ ap (λ found. outcome (accepted found)) (sym (found-stopped a.bundles a.values.now a.allowance (short (goal.at.returns c).Else-is_enough)))
+    c.cut_stopped.ensures ∙ ap stored (sym (found-stopped a.bundles a.values.now a.allowance (short (goal.at.returns c).Else-is_enough)))

@@ -1,7 +1,7 @@
 -- The loop's invariant: the rows up to `left` are filled, and `row` is the last.
 use mathlib.Core.Path.{◌≡◌}
 use mathlib.Core.List.{List, map}
-use Prim.Native.Nat.{ℕ, ◌+◌, ◌-◌, ◌≤◌}
+use Prim.Native.Nat.{ℕ, ◌+◌, ◌-◌}
 use Rattle.lists.specs.Lists.{range, zeros, padded}
 use Rattle.sheet.specs.Limits.{most_items}
 use Rattle.growth.specs.Counts.{used_places, count_row}
@@ -12,7 +12,4 @@ abbrev pub filled_to : ℕ → ℕ → List (List ℕ)
 filled_to n rows = padded (most_items + 1) (zeros used_places) (map (λ c. count_row n (c - 1)) (range 1 rows))
 
 abbrev pub invariant-loop-left : goal.invariant-loop-left
-invariant-loop-left l = (l.left ≤ l.last) × (l.row ≡ count_row l.most l.left) × (l.counts ≡ filled_to l.most (l.left + 1))
-
-abbrev pub decreases-loop-left : goal.decreases-loop-left
-decreases-loop-left l = l.last - l.left
+invariant-loop-left l = l.counts ≡ filled_to l.most (l.left + 1)

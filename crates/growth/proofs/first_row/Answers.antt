@@ -11,7 +11,7 @@ pub loop-used-preserved : goal.loop-used-preserved
 loop-used-preserved c =
     let l = c.loop-used in
     let n = c.args.bundles in
-    (omega arith, ap (λ row. set row l.used 1) l.invariant.1 ∙ padded-range used_places 0 (λ c. growth_count n (c - 1) 0) l.used 1 (omega arith) refl)
+    ap (λ row. set row l.used 1) l.invariant ∙ padded-range used_places 0 (λ c. growth_count n (c - 1) 0) l.used 1 (omega arith) refl
 
 pub returns : goal.returns
 unfolding count_row
@@ -19,4 +19,4 @@ returns c =
     let l = c.loop-used in
     let n = c.args.bundles in
     let all : l.used ≡ n + 1 = omega arith in
-    l.invariant.1 ∙ ap (filled_to n) all
+    l.invariant ∙ ap (filled_to n) all

@@ -14,6 +14,3 @@ filled_to row used = padded used_places 0 (map (λ c. one_more row (c - 1)) (ran
 
 abbrev pub invariant-loop-used : goal.invariant-loop-used
 invariant-loop-used l = (l.used ≤ most_agents + 1) × (l.next ≡ filled_to l.row l.used)
-
-abbrev pub decreases-loop-used : goal.decreases-loop-used
-decreases-loop-used l = most_agents + 1 - l.used

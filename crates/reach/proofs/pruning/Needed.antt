@@ -3,10 +3,11 @@ use mathlib.Core.Path.{◌≡◌, refl, sym, ◌∙◌}
 use mathlib.Core.Bool.{true, true≢false}
 use mathlib.Core.Logic.{⊎_elim}
 use mathlib.Core.List.{List, [], ◌∷◌}
-use Prim.Native.Nat.{ℕ, zero, suc, ◌+◌, ◌-◌, ◌*◌, ◌/◌, ◌≤◌, ◌<◌}
-use native.Mathlib.Nat.{div-lt_iff_lt-mul, add-mul}
+use Prim.Native.Nat.{ℕ, zero, suc, ◌+◌, ◌*◌, ◌/◌, ◌%◌, ◌≤◌, ◌<◌, min}
+use native.Mathlib.Nat.{div-lt_iff_lt-mul, add-mul, mul-le-mul_right}
 use native.Mathlib.Omega.{arith}
 use lib.ListN.{length}
+use Rattle.std.proofs.lemmas.Grind.{div_ceil_times}
 use borrow.Author.Tests.{le-ltb}
 use Rattle.lists.specs.Sums.{sum_over}
 use Rattle.lists.proofs.Cases.{lt-or-ge}
@@ -14,16 +15,6 @@ use Rattle.reach.specs.Loads.{least_loaded}
 use Rattle.reach.specs.Pruning.{greatest_value, needed, needed_by, needs_more}
 use Rattle.reach.proofs.pruning.Reached.{lacks-le-values}
 use Rattle.reach.proofs.pruning.Greatest.{greatest_value-positive}
-
--- nothing is lacking
-pub needed-none : (most lack : ℕ) → lack ≤ 0 → needed most lack ≡ 0
-needed-none most zero none = refl
-needed-none most (suc lack) none = absurd (omega arith)
-
--- a lack that is there
-pub needed-some : (most lack : ℕ) → 1 ≤ lack → needed most lack ≡ (lack - 1) / most + 1
-needed-some most zero some = absurd (omega arith)
-needed-some most (suc lack) some = let less : suc lack - 1 ≡ lack = omega arith in rw less refl
 
 module _ (most : ℕ) (some : 1 ≤ most) where
   -- values that cover the lack are no fewer than needed
@@ -41,6 +32,17 @@ module _ (most : ℕ) (some : 1 ≤ most) where
 
   needed-mono : (x y : ℕ) → x ≤ y → needed most x ≤ needed most y
   needed-mono x y le = needed-le x (needed most y) (omega (arith, le-needed y))
+
+  -- how many are needed is a division rounded up
+  pub needed-div_ceil : (lack : ℕ) → needed most lack ≡ lack / most + min 1 (lack % most)
+  needed-div_ceil lack =
+      let up = lack / most + min 1 (lack % most) in
+      let bounds = div_ceil_times lack most some in
+      ⊎_elim
+      (λ (few : needed most lack < up).
+      absurd (omega (arith, bounds.1, le-needed lack, add-mul (needed most lack) 1 most, mul-le-mul_right most few)))
+      (λ enough. omega (arith, enough, needed-le lack up bounds.0))
+      (lt-or-ge (needed most lack) up)
 
 -- a value is one value
 needed-values : (most : ℕ) (values : List ℕ) → greatest_value values ≤ most → sum_over (needed most) values ≤ length values

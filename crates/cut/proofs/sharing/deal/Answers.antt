@@ -7,19 +7,19 @@ use Rattle.cut.proofs.sharing.deal.Goals as goal
 
 pub overflow_add-loads : goal.overflow_add-loads
 overflow_add-loads c =
-    let l = c.loop-i in
+    let l = c.loop-value in
     let light = c.lightest-light in
-    omega (arith, heavier-le c.args.bundles c.args.values.now l.loads l.i l.invariant light.result light.ensures c.requires.2 (omega arith), c.requires.0)
+    omega (arith, heavier-le c.args.bundles c.args.values.now l.loads l.value-index l.invariant light.result light.ensures c.requires.2 (omega arith), c.requires.0)
 
-pub loop-i-preserved : goal.loop-i-preserved
-loop-i-preserved c =
-    let l = c.loop-i in
+pub loop-value-preserved : goal.loop-value-preserved
+loop-value-preserved c =
+    let l = c.loop-value in
     let light = c.lightest-light in
-    dealt-next c.args.bundles c.args.values.now l.loads l.i l.invariant light.result light.ensures c.requires.2 (omega arith)
+    dealt-next c.args.bundles c.args.values.now l.loads l.value-index l.invariant light.result light.ensures c.requires.2 (omega arith)
 
 pub returns : goal.returns
 returns c =
-    let l = c.loop-i in
+    let l = c.loop-value in
     let a = c.args in
     let all : limited_bundles a.bundles ≡ a.bundles = omega (arith, c.requires.1, c.requires.2) in
-    omega (arith, c.least.ensures, ap (least_of (load_of l.loads)) all, dealt-end a.bundles a.values.now l.loads l.i l.invariant (omega arith))
+    omega (arith, c.least.ensures, ap (least_of (load_of l.loads)) all, dealt-end a.bundles a.values.now l.loads l.value-index l.invariant (omega arith))

@@ -1,20 +1,16 @@
 -- The proof of the cycle of calls {extend}. The measure is the number of agents that have no bundle yet.
--- The loop's invariant: the first matching is the first one that goes on with a bundle from place `at` on.
+-- The loop's invariant: the first matching is the first one that goes on with a bundle from the next place on.
 use mathlib.Core.Path.{◌≡◌}
-use Prim.Native.Nat.{◌-◌, ◌≤◌}
-use lib.ListN.{drop}
-use Rattle.sheet.specs.Listed.{listed}
+use Prim.Native.Nat.{◌-◌}
+use lib.ListN.{length, drop}
 use Rattle.serving.specs.Serving.{suits_of}
 use Rattle.serving.specs.internal.Searching.{first_matching}
 use Rattle.serving.proofs.searches.FirstMatching.{matching_from}
 use Rattle.serving.proofs.choosing.+extend.Given as goal
 
 abbrev pub decreases-extend : goal.decreases-extend
-decreases-extend l = l.served.count - l.chosen.count
+decreases-extend l = length l.served.now - length l.chosen
 
-abbrev pub invariant-loop-at : goal.invariant-loop-at
-invariant-loop-at l = (l.at ≤ l.free.count)
-    × (first_matching (suits_of l.suiting) (listed l.served) (listed l.free) (listed l.chosen) ≡ matching_from (suits_of l.suiting) (listed l.served) (listed l.free) (listed l.chosen) (drop l.at (listed l.free)))
-
-abbrev pub decreases-loop-at : goal.decreases-loop-at
-decreases-loop-at l = l.free.count - l.at
+abbrev pub invariant-loop-bundle : goal.invariant-loop-bundle
+invariant-loop-bundle l =
+    first_matching (suits_of l.suiting) l.served l.free l.chosen ≡ matching_from (suits_of l.suiting) l.served l.free l.chosen (drop l.bundle-index l.free)

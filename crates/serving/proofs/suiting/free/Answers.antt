@@ -1,11 +1,13 @@
-use mathlib.Core.Path.{sym, ◌∙◌}
+use mathlib.Core.Path.{sym, ap, ◌∙◌}
+use mathlib.Core.List.{[], ◌∷◌, ◌++◌}
 use Prim.Native.Nat.{◌+◌}
 use native.Mathlib.Omega.{arith}
+use lib.ListN.{take}
 use Rattle.lists.specs.Lists.{range}
 use Rattle.lists.proofs.ranges.Ranges.{length-range}
-use Rattle.lists.proofs.places.Passing.{range-next}
-use Rattle.sheet.specs.Listed.{listed}
-use Rattle.sheet.proofs.listing.Kept.{kept_more, kept_same}
+use Rattle.lists.proofs.places.Passing.{range-next, reject-same}
+use Rattle.sheet.specs.Limits.{set_bits}
+use Rattle.sheet.proofs.listing.Entries.{kept}
 use Rattle.matching.specs.Matching.{wanted}
 use Rattle.serving.specs.Serving.{suits_of}
 use Rattle.serving.proofs.suiting.free.Goals as goal
@@ -13,10 +15,12 @@ use Rattle.serving.proofs.suiting.free.Goals.{else-not-is_wanted, then-not-is_wa
 
 pub loop-i-preserved : goal.loop-i-preserved
 loop-i-preserved c =
-    let a = c.args in
     let l = c.loop-i in
-    let found = c.is_wanted in
-    let want = wanted (suits_of a.suiting) (listed a.waiting) in (
-      omega arith,
-      rw (range-next l.i) (elim c.if-not-is_wanted.branch [ then-not-is_wanted w ↦ w.left-is ∙ w.append-left.ensures ∙ kept_more want (range 1 l.i) l.left l.invariant.1 (l.i + 1) (omega (arith, length-range 1 l.i)) (sym found.ensures ∙ w.if-not-is_wanted.true) | else-not-is_wanted w ↦ w.left-is ∙ kept_same want (range 1 l.i) l.left l.invariant.1 (l.i + 1) (sym found.ensures ∙ w.if-not-is_wanted.false) ]),
-    )
+    let b = l.i + 1 in
+    let want = wanted (suits_of c.args.suiting) c.args.waiting.now in
+    let told = c.is_wanted.ensures in
+    rw (range-next l.i)
+    (elim c.if-not-is_wanted.branch [
+      | then-not-is_wanted w ↦ w.free-is ∙ w.push.ensures ∙ ap (λ r. take set_bits (r ++ (b ∷ []))) l.invariant ∙ kept want (range 1 l.i) b (omega (arith, length-range 1 l.i)) (sym told ∙ w.if-not-is_wanted.true)
+      | else-not-is_wanted w ↦ w.free-is ∙ l.invariant ∙ sym (reject-same want (range 1 l.i) b (sym told ∙ w.if-not-is_wanted.false))
+    ])

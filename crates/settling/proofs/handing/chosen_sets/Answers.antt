@@ -3,6 +3,7 @@ use mathlib.Core.List.{List, [], ◌∷◌, map, map-append}
 use Prim.Native.Nat.{ℕ, ◌+◌, ◌≤◌, ◌<◌}
 use native.Mathlib.Omega.{arith}
 use lib.ListN.{length, get_or, take, set, length-map, length-take}
+use lib.Seq.{take_all}
 use Rattle.lists.specs.Lists.{nth, padded}
 use Rattle.sheet.specs.Limits.{most_agents}
 use Rattle.lists.proofs.places.Padding.{padded-next}
@@ -30,4 +31,9 @@ pub loop-i-preserved : goal.loop-i-preserved
 loop-i-preserved c =
     let l = c.loop-i in
     let a = c.args in
-    (omega arith, rw l.invariant.1 (stored_next a.sets a.chosen.now l.i (omega arith) (omega arith)))
+    rw l.invariant (stored_next a.sets a.chosen.now l.i (omega arith) (omega arith))
+
+pub returns : goal.returns
+returns c =
+    let l = c.loop-i in
+    l.invariant ∙ ap (λ chosen. padded most_agents 0 (map (nth 0 c.args.sets) chosen)) (take_all l.i c.args.chosen.now (omega arith))

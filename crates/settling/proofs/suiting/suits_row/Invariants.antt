@@ -1,5 +1,4 @@
 -- The loop's invariant: the first i places are filled in.
-use Prim.Native.Nat.{◌-◌}
 use Rattle.lists.specs.Lists.{nth}
 use Rattle.sheet.specs.Limits.{most_agents}
 use Rattle.settling.specs.Suiting.{set_suits}
@@ -8,6 +7,3 @@ use Rattle.settling.proofs.suiting.suits_row.Given as goal
 
 abbrev pub invariant-loop-i : goal.invariant-loop-i
 invariant-loop-i l = Filled (λ c. set_suits l.terms l.valuation l.share (nth 0 l.sets c)) most_agents l.row l.i
-
-abbrev pub decreases-loop-i : goal.decreases-loop-i
-decreases-loop-i l = most_agents - l.i

@@ -1,28 +1,20 @@
-use mathlib.Core.Path.{◌≡◌, sym}
-use mathlib.Core.Bool.{Bool, false}
-use mathlib.Core.List.{List}
-use Prim.Native.Nat.{ℕ, ◌+◌}
-use native.Mathlib.Omega.{arith}
+use mathlib.Core.Path.{refl, sym, ap, ◌∙◌}
+use native.Mathlib.Nat.{sub-zero}
 use lib.Dec.{leb}
-use borrow.Author.Tests.{le-leb, lt-leb}
+use lib.ListN.{get_or}
+use Rattle.std.proofs.Common.{rules, tests}
+use Rattle.std.proofs.lemmas.Iterator.{YieldsList-from_range}
+use Rattle.std.proofs.lemmas.Iterator.Search.{all_from_yields_List}
 use Rattle.lists.specs.Lists.{nth}
 use Rattle.lists.proofs.places.Places.{nth-next}
-use Rattle.lists.proofs.members.Tests.{all-next, all-fails}
+use Rattle.sheet.specs.Amounts.{each_at_most}
+use Rattle.sheet.proofs.listing.Entries.{all-places}
 use Rattle.sheet.proofs.amounts.each_at_most.Goals as goal
 
--- whether the amounts of agent i are in order
-abbrev at_most : List ℕ → List ℕ → ℕ → Bool
-at_most low high i = leb (nth 0 low i) (nth 0 high i)
-
-pub returns-then-high-i : goal.returns-then-high-i
-returns-then-high-i c =
-    let a = c.args in
-    let i = c.loop-i.i in
-    let fails : at_most a.low a.high (i + 1) ≡ false = rw (nth-next 0 a.low i, nth-next 0 a.high i) (lt-leb _ _ c.if-high-i.true) in
-    sym (rw (← c.lesser-last.ensures) (all-fails (at_most a.low a.high) c.lesser-last.result (i + 1) (omega arith) (omega arith) fails))
-
-pub loop-i-preserved : goal.loop-i-preserved
-loop-i-preserved c =
-    let a = c.args in
-    let l = c.loop-i in
-    (omega arith, all-next (at_most a.low a.high) l.i l.invariant.1 (rw (nth-next 0 a.low l.i, nth-next 0 a.high l.i) (le-leb _ _ c.if-high-i.false)))
+pub returns : goal.returns
+returns c =
+    let low = c.args.low in
+    let high = c.args.high in
+    all_from_yields_List (λ i. leb (get_or low i 0) (get_or high i 0)) _ _ c.all.result c.all.ensures.ran (YieldsList-from_range 0 c.min.result c.min.result refl (sub-zero c.min.result)) (λ x b q k. search (rules, tests))
+    ∙ sym (all-places (λ i. leb (nth 0 low i) (nth 0 high i)) (λ i. leb (get_or low i 0) (get_or high i 0)) (λ i. rw (nth-next 0 low i, nth-next 0 high i) refl) 1 0 c.min.result refl)
+    ∙ ap (each_at_most low high) c.min.ensures
