@@ -43,11 +43,8 @@ fn store(places: Sets, served: &[u8], sets: Sets) -> Sets
     ensures { result ≡ stored served.now sets places }
 {
     let mut bundles = places;
-    let mut i: usize = 0;
-    while i < served.len() {
-        let agent = served[i] as usize;
-        bundles[agent - 1] = sets[i];
-        i += 1;
+    for (agent, set) in served.iter().zip(&sets) {
+        bundles[*agent as usize - 1] = *set;
     }
     bundles
 }
@@ -57,15 +54,12 @@ fn hand_out(allocation: Allocation, cutter: u8, served: &[u8], sets: Sets) -> Al
     requires { Within most_agents served.now × (length served.now ≤ most_agents) × (allocation.rounds < most_agents) }
     ensures { result ≡ with_round cutter served.now sets allocation }
 {
-    let places = allocation.bundles;
-    let bundles = store(places, served, sets);
     let mut cutters = allocation.cutters;
-    let rounds = allocation.rounds;
-    cutters[rounds] = cutter;
+    cutters[allocation.rounds] = cutter;
     Allocation {
-        bundles,
+        bundles: store(allocation.bundles, served, sets),
         cutters,
-        rounds: rounds + 1,
+        rounds: allocation.rounds + 1,
     }
 }
 
@@ -75,10 +69,7 @@ fn cut_left(table: Table, cutter: u8, left: u16, set: u16, allowance: u32) -> Pa
     ensures { result ≡ placed (cut_left table cutter (agents_in left) (items_of set)) }
 {
     let agents = items_of(left);
-    let valuation = table[cutter as usize - 1];
-    let cutting = cut(valuation, set, agents.count, allowance);
-    let partition = cutting.partition;
-    partition
+    cut(table[cutter as usize - 1], set, agents.len(), allowance).partition
 }
 
 // The allocation once the agents left have divided the items left: one round, and the agents that wait divide what it leaves, with the same
@@ -98,26 +89,20 @@ pub(crate) fn divide_left(
     ensures { result ≡ allotted_all (instance_from terms table shares) (agents_in left) (items_of set) allocation }
 {
     let round = settle_round(table, shares, terms, cutter, left, set, partition);
-    let served = round.served;
-    let numbers = served.numbers;
-    let count = served.count;
-    let sets = round.sets;
-    let given = hand_out(allocation, cutter, &numbers[..count], sets);
-    let waiting = round.waiting;
-    if waiting == 0 {
+    let given = hand_out(allocation, cutter, round.served.as_slice(), round.sets);
+    if round.waiting == 0 {
         return given;
     }
-    let rest = round.left;
-    let next_cutter = cutter_of(waiting);
-    let next = cut_left(table, next_cutter, waiting, rest, allowance);
+    let next_cutter = cutter_of(round.waiting);
+    let next = cut_left(table, next_cutter, round.waiting, round.left, allowance);
     divide_left(
         table,
         shares,
         terms,
         allowance,
         next_cutter,
-        waiting,
-        rest,
+        round.waiting,
+        round.left,
         next,
         given,
     )

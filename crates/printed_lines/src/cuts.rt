@@ -20,7 +20,7 @@ fn put_bundles(writer: &mut Writer, agents: usize, items: usize, partition: Part
     for i in 0..agents {
         let bundle = bundle_of(set, partition, i as u8 + 1);
         writer.byte(b' ');
-        writer.group(&bundle.numbers[..bundle.count]);
+        writer.group(bundle.as_slice());
     }
 }
 

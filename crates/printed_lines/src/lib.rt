@@ -34,7 +34,7 @@ fn put_pile(writer: &mut Writer, pile: u16)
 {
     let bundle = items_of(pile);
     writer.bytes(b" (pile");
-    writer.spaced(&bundle.numbers[..bundle.count]);
+    writer.spaced(bundle.as_slice());
     writer.byte(b')');
 }
 

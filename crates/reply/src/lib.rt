@@ -2,12 +2,15 @@
 #![tactic(auto)]
 
 ghost use Rattle.std.specs.Prelude.{◌≡◌};
+ghost use Rattle.sheet.specs.Answers.{number_of};
+ghost use Rattle.sheet.specs.Refusals.{answer_of};
 ghost use Rattle.writing.specs.Output.{output};
 ghost use Rattle.writing.specs.WithText.{Writes};
 ghost use Rattle.reply.specs.Replies.{refusal_line, reply_into, Front};
-ghost use Rattle.reply.specs.Stored.{number_answered, length_answered};
+ghost use Rattle.reply.specs.Stored.{length_answered};
 
-use writing::{Answer, Writer};
+use sheet::refusal::Refusal;
+use writing::Writer;
 
 // The line of a refusal, as far as there is room.
 fn put_refusal(writer: &mut Writer, number: u8)
@@ -19,31 +22,31 @@ fn put_refusal(writer: &mut Writer, number: u8)
 
 // What a program writes for an answer about its lent buffer: puts the line of a refusal at the front of the buffer, leaves the buffer
 // of a text as it is, and returns the length of the front to write.
-pub fn reply(answer: Answer, buffer: &mut [u8]) -> usize
-    ensures front { output buffer.new result ≡ reply_into answer buffer.old }
+pub fn reply(answer: Result<usize, Refusal>, buffer: &mut [u8]) -> usize
+    ensures front { output buffer.new result ≡ reply_into (answer_of answer) buffer.old }
     ensures within { Front result buffer.new }
 {
     match answer {
-        Answer::Refused(number) => {
+        Ok(length) => length.min(buffer.len()),
+        Err(refusal) => {
             let mut writer = Writer::new(buffer);
-            put_refusal(&mut writer, number);
+            put_refusal(&mut writer, refusal.number());
             writer.at
         }
-        Answer::Written(length) => length.min(buffer.len()),
     }
 }
 
 // What a caller by C's calling convention is told: stores the length of a text and returns 0, or returns the number of the refusal and
 // leaves the length as it is.
-pub fn store_length(answer: Answer, length: &mut usize) -> u8
-    ensures number { result ≡ number_answered answer }
-    ensures length { length.new ≡ length_answered answer length.old }
+pub fn store_length(answer: Result<usize, Refusal>, length: &mut usize) -> u8
+    ensures number { result ≡ number_of (answer_of answer) }
+    ensures length { length.new ≡ length_answered (answer_of answer) length.old }
 {
     match answer {
-        Answer::Refused(number) => number,
-        Answer::Written(written) => {
+        Ok(written) => {
             *length = written;
             0
         }
+        Err(refusal) => refusal.number(),
     }
 }

@@ -3,18 +3,13 @@
 
 ghost use Rattle.std.specs.Prelude.{◌≡◌, [], ◌∷◌, ◌++◌, length, take};
 ghost use Rattle.text.specs.Decimal.{decimal, signed, spaced_number, spaced_numbers};
-ghost use Rattle.sheet.specs.Answers.{after};
-ghost use Rattle.writing.specs.Answered.{answered};
+ghost use Rattle.sheet.specs.Answers.{map_answer, after};
+ghost use Rattle.sheet.specs.Refusals.{answer_of};
 ghost use Rattle.writing.specs.Fields.{group};
 ghost use Rattle.writing.specs.Filled.{filling, filled};
 ghost use Rattle.writing.specs.WithText.{Writes};
 
-// What an entry that fills a lent buffer answers: the number of the reason why nothing is written, or the length of the text.
-#[derive(Clone, Copy)]
-pub enum Answer {
-    Refused(u8),
-    Written(usize),
-}
+use sheet::refusal::Refusal;
 
 // A lent buffer, and the place of the byte that comes next.
 #[derive(Drop)]
@@ -121,13 +116,13 @@ impl<'a> Writer<'a> {
 }
 
 // A text from the front of a buffer; refused with 10 where the buffer is shorter than the text, and then the buffer keeps all its bytes.
-pub fn fill(text: &[u8], buffer: &mut [u8]) -> Answer
-    ensures answer { result ≡ answered (filling (length buffer.old) text.now) }
+pub fn fill(text: &[u8], buffer: &mut [u8]) -> Result<usize, Refusal>
+    ensures answer { answer_of result ≡ map_answer length (filling (length buffer.old) text.now) }
     ensures buffer { buffer.new ≡ after filled (filling (length buffer.old) text.now) buffer.old }
 {
     if buffer.len() < text.len() {
-        return Answer::Refused(10);
+        return Err(Refusal::BufferTooShort);
     }
     buffer[..text.len()].copy_from_slice(text);
-    Answer::Written(text.len())
+    Ok(text.len())
 }

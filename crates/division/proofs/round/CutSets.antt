@@ -19,7 +19,6 @@ use Rattle.sheet.specs.Limits.{most_agents, most_items, set_bits, greatest_sum}
 use Rattle.sheet.specs.Sets.{items_of, set_of}
 use Rattle.sheet.specs.Valuations.{item_value, value}
 use Rattle.sheet.specs.Tables.{valuation_of}
-use Rattle.sheet.specs.Listed.{numbered}
 use Rattle.sheet.specs.Amounts.{SmallAmounts}
 use Rattle.sheet.proofs.sets.Sets.{items-set_of}
 use Rattle.sheet.proofs.sets.Items.{items-sublist, set_of-items}
@@ -49,7 +48,7 @@ use Rattle.division.proofs.round.SetSums.{set_of-handed}
 abbrev pub settled : Round → Settled
 settled r =
     record {
-      served = numbered r.served;
+      served = r.served;
       sets = padded most_agents 0 (map set_of r.bundles);
       waiting = set_of r.waiting;
       left = set_of r.left;
@@ -149,7 +148,7 @@ module _ {left set : ℕ} (ok : Cuttable left set) (terms : Terms) (small_terms 
   -- what the code's round settles, from the agents served, those who wait and the sets handed out
   abbrev settled_from : List ℕ → List ℕ → List ℕ → ℕ → Settled
   settled_from served waiting sets rest =
-      record { served = numbered served; sets = padded most_agents 0 sets; waiting = set_of waiting; left = rest }
+      record { served = served; sets = padded most_agents 0 sets; waiting = set_of waiting; left = rest }
 
   -- it is what the definition's does
   pub settled-round : settled_by terms table shares cutter left set (placed l) ≡ settled (round G agents (items_of set))

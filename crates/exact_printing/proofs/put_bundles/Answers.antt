@@ -1,3 +1,4 @@
+use mathlib.Core.Path.{◌∙◌}
 use mathlib.Core.List.{flat_map}
 use native.Mathlib.Omega.{arith}
 use lib.ListN.{get_or, length-take}
@@ -5,7 +6,6 @@ use lib.Seq.{get_or-take}
 use Rattle.lists.proofs.places.Places.{nth-next}
 use Rattle.lists.proofs.members.FlatMap.{flat_map-next}
 use Rattle.sheet.specs.Sets.{items_of}
-use Rattle.sheet.proofs.listing.Listed.{listed-is}
 use Rattle.writing.proofs.Written.{nothing, ◌then◌}
 use Rattle.exact_printing.specs.internal.SetsText.{set_group}
 use Rattle.exact_printing.proofs.put_bundles.Goals as goal
@@ -19,6 +19,6 @@ loop-set-preserved c =
     let l = c.loop-set in
     let bundles = c.args.bundles in
     let own = get_or-take c.args.agents bundles l.set-index 0 (omega (arith, length-take c.args.agents bundles)) in
-    let listed = listed-is (items_of (get_or bundles l.set-index 0)) (rw own at c.items_of-bundle.ensures) in
+    let listed = c.as_slice.ensures.same ∙ rw own at c.items_of-bundle.ensures in
     rw (flat_map-next (set_group bundles) l.set-index, nth-next 0 bundles l.set-index)
     (l.invariant then (c.byte.ensures then rw listed at c.group.ensures))

@@ -5,8 +5,6 @@ use native.Mathlib.Omega.{arith}
 use lib.ListN.{length, set}
 use Rattle.sheet.specs.Limits.{most_agents}
 use Rattle.sheet.specs.Sets.{items_of, set_of}
-use Rattle.sheet.specs.Listed.{numbered, listed}
-use Rattle.sheet.proofs.listing.Listed.{listed-is, count-listed, count-places}
 use Rattle.cut.specs.Outcome.{placed}
 use Rattle.matching.specs.Matching.{cutter_of}
 use Rattle.matching.proofs.Cutter.{cutter_of-mem}
@@ -51,11 +49,8 @@ module _ {t : ℕ} (c : After-settle_round-round t) where
       ∙ ap₂ (λ cutter. settled_by a.terms a.table a.shares cutter a.left a.set) cutter-is partition-is
       ∙ settled-round cuttable a.terms ready.small_terms a.table a.shares ready.small_shares
 
-  served-is : c.settle_round-round.result.served ≡ numbered this-round.served
+  served-is : c.settle_round-round.result.served ≡ this-round.served
   served-is = ap (λ r. r.served) settled_is
-
-  served-listed : listed c.settle_round-round.result.served ≡ this-round.served
-  served-listed = listed-is this-round.served served-is
 
   waiting-is : c.settle_round-round.result.waiting ≡ set_of this-round.waiting
   waiting-is = ap (λ r. r.waiting) settled_is
@@ -65,7 +60,7 @@ module _ {t : ℕ} (c : After-settle_round-round t) where
 
   -- the allocation with the round
   given_is : (given : Allocation)
-      → given ≡ with_round c.args.cutter (listed c.settle_round-round.result.served) c.settle_round-round.result.sets c.args.allocation
+      → given ≡ with_round c.args.cutter c.settle_round-round.result.served c.settle_round-round.result.sets c.args.allocation
       → given ≡ with_round this-round.cutter this-round.served (map set_of this-round.bundles) c.args.allocation
   given_is given told =
       let r = this-round in
@@ -73,7 +68,7 @@ module _ {t : ℕ} (c : After-settle_round-round t) where
       let sets = map set_of r.bundles in
       let allocated : List ℕ → Allocation = λ bundles. record { bundles = bundles; cutters = set a.cutters a.rounds r.cutter; rounds = a.rounds + 1 } in
       told
-      ∙ ap₂ (λ cutter served. with_round cutter served c.settle_round-round.result.sets a) (cutter-is ∙ sym (round-cutter instance (agents_in c.args.left) (items_of c.args.set))) served-listed
+      ∙ ap₂ (λ cutter served. with_round cutter served c.settle_round-round.result.sets a) (cutter-is ∙ sym (round-cutter instance (agents_in c.args.left) (items_of c.args.set))) served-is
       ∙ ap (λ q. with_round r.cutter r.served q.sets a) settled_is
       ∙ ap allocated (stored-zeros r.served sets (most_agents - length sets) a.bundles)
 
@@ -90,32 +85,22 @@ module _ {t : ℕ} (c : After-settle_round-round t) where
     next-enough : EnoughFor c.args.allowance c.settle_round-round.result.waiting c.settle_round-round.result.left
     next-enough = rw (waiting-is, left_is) (enough-next cuttable instance c.args.allowance (λ none. somebody (waiting-is ∙ none)) c.requires.0.enough)
 
-pub slice_bounds-numbers-end : goal.slice_bounds-numbers-end
-slice_bounds-numbers-end t c =
-    let r = (goal.at.slice_bounds-numbers-end t c).After-settle_round-round in
-    count-places (this-round r).served (served-is r)
-
-pub slice_bounds-hand_out-end : goal.slice_bounds-hand_out-end
-slice_bounds-hand_out-end t c =
-    let r = (goal.at.slice_bounds-hand_out-end t c).After-settle_round-round in
-    count-listed (this-round r).served (served-is r)
-
 pub hand_out-given-requires : goal.hand_out-given-requires
 hand_out-given-requires t c =
     let r = (goal.at.hand_out-given-requires t c).After-settle_round-round in
-    rw (served-listed r) (served-within (cuttable r) (instance r), served-few (cuttable r) (instance r), omega (arith, c.requires.0.places, (cuttable r).some_left))
+    rw (c.as_slice.ensures.same ∙ served-is r) (served-within (cuttable r) (instance r), served-few (cuttable r) (instance r), omega (arith, c.requires.0.places, (cuttable r).some_left))
 
-pub returns-then-waiting-eq0 : goal.returns-then-waiting-eq0
-returns-then-waiting-eq0 t c =
-    let r = (goal.at.returns-then-waiting-eq0 t c).After-settle_round-round in
-    given_is r c.hand_out-given.result c.hand_out-given.ensures
-    ∙ sym (allotted-last (instance r) (agents_in c.args.left) (items_of c.args.set) c.args.allocation (cuttable r).some_left (none-waiting (cuttable r) (instance r) (sym (waiting-is r) ∙ c.if-waiting-eq0.true)))
+pub returns-then-round-eq0 : goal.returns-then-round-eq0
+returns-then-round-eq0 t c =
+    let r = (goal.at.returns-then-round-eq0 t c).After-settle_round-round in
+    given_is r c.hand_out-given.result (c.hand_out-given.ensures ∙ ap (λ served. with_round c.args.cutter served c.settle_round-round.result.sets c.args.allocation) c.as_slice.ensures.same)
+    ∙ sym (allotted-last (instance r) (agents_in c.args.left) (items_of c.args.set) c.args.allocation (cuttable r).some_left (none-waiting (cuttable r) (instance r) (sym (waiting-is r) ∙ c.if-round-eq0.true)))
 
 pub cut_left-next-requires : goal.cut_left-next-requires
 cut_left-next-requires t c =
     let r = (goal.at.cut_left-next-requires t c).After-settle_round-round in
     let waiting = agents_in c.settle_round-round.result.waiting in
-    (rw c.cutter_of-next_cutter.ensures (cutter_of-mem waiting (next-cuttable r c.if-waiting-eq0.false).some_left), next-cuttable r c.if-waiting-eq0.false, next-enough r c.if-waiting-eq0.false)
+    (rw c.cutter_of-next_cutter.ensures (cutter_of-mem waiting (next-cuttable r c.if-round-eq0.false).some_left), next-cuttable r c.if-round-eq0.false, next-enough r c.if-round-eq0.false)
 
 pub divide_left-requires : goal.divide_left-requires
 divide_left-requires t c =
@@ -128,9 +113,9 @@ divide_left-requires t c =
         record {
           small_terms = ready.small_terms;
           small_shares = ready.small_shares;
-          cuttable = next-cuttable r c.if-waiting-eq0.false;
-          enough = next-enough r c.if-waiting-eq0.false;
-          places = omega (arith, ready.places, next, fewer, ap (λ a. a.rounds) (given_is r c.hand_out-given.result c.hand_out-given.ensures));
+          cuttable = next-cuttable r c.if-round-eq0.false;
+          enough = next-enough r c.if-round-eq0.false;
+          places = omega (arith, ready.places, next, fewer, ap (λ a. a.rounds) (given_is r c.hand_out-given.result (c.hand_out-given.ensures ∙ ap (λ served. with_round c.args.cutter served c.settle_round-round.result.sets c.args.allocation) c.as_slice.ensures.same)));
         },
         c.cutter_of-next_cutter.ensures,
         c.cut_left-next.ensures,
@@ -144,5 +129,5 @@ returns t c =
     let G = instance r in
     c.divide_left.ensures
     ∙ ap (λ agents. allotted_all G agents (items_of c.settle_round-round.result.left) c.hand_out-given.result) (next-agents r)
-    ∙ ap₂ (allotted_all G this.waiting) (ap items_of (left_is r) ∙ items_of-next (cuttable r) G) (given_is r c.hand_out-given.result c.hand_out-given.ensures)
+    ∙ ap₂ (allotted_all G this.waiting) (ap items_of (left_is r) ∙ items_of-next (cuttable r) G) (given_is r c.hand_out-given.result (c.hand_out-given.ensures ∙ ap (λ served. with_round c.args.cutter served c.settle_round-round.result.sets c.args.allocation) c.as_slice.ensures.same))
     ∙ sym (allotted-next G (agents_in c.args.left) (items_of c.args.set) c.args.allocation (cuttable r).some_left)

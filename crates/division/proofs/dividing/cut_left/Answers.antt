@@ -24,8 +24,8 @@ cutter-within s =
     let (low, high) = range-bounds 1 most_agents (sublist-mem (agents_in-sublist s.args.left) s.requires.0) in
     (low, omega arith)
 
-pub overflow_sub-valuation : goal.overflow_sub-valuation
-overflow_sub-valuation c = (cutter-within (goal.at.overflow_sub-valuation c).Start).0
+pub overflow_sub-cutter : goal.overflow_sub-cutter
+overflow_sub-cutter c = (cutter-within (goal.at.overflow_sub-cutter c).Start).0
 
 pub bounds-table-cutter : goal.bounds-table-cutter
 bounds-table-cutter c = omega (arith, cutter-within (goal.at.bounds-table-cutter c).Start)
@@ -35,9 +35,9 @@ unfolding values_of
 returns c =
     let a = c.args in
     let same = agents_in-items a.left c.requires.1.small_left in
-    let n = c.items_of-agents.result.count in
-    let count : n ≡ length (agents_in a.left) = ap (λ k. k.count) c.items_of-agents.ensures ∙ ap length (sym same) in
+    let n = c.len.result in
+    let count : n ≡ length (agents_in a.left) = c.len.ensures.count ∙ ap length (c.items_of-agents.ensures ∙ sym same) in
     let row = get_or a.table (a.cutter - 1) [] in
     let enough : growths n (length (values_of row a.set)) ≤ a.allowance = omega (arith, ap₂ growths count (length-map (items_of a.set) (item_value row)), c.requires.2) in
-    ap (λ o. o.partition) (c.cut-cutting.ensures ∙ ap cut_outcome (cutting-shared row a.set n a.allowance (omega (arith, c.requires.1.some_left)) (omega (arith, range-sublist-few most_agents (agents_in-sublist a.left))) c.requires.1.small_set enough))
+    ap (λ o. o.partition) (c.cut.ensures ∙ ap cut_outcome (cutting-shared row a.set n a.allowance (omega (arith, c.requires.1.some_left)) (omega (arith, range-sublist-few most_agents (agents_in-sublist a.left))) c.requires.1.small_set enough))
     ∙ ap (λ k. placed (maximin_partition k (map (item_value row) (items_of a.set)))) count

@@ -4,9 +4,7 @@ use Rattle.lists.specs.Lists.{range}
 use Prim.Native.Nat.{ℕ, ◌+◌}
 use native.Mathlib.Omega.{arith}
 use Rattle.sheet.specs.Sets.{items_of}
-use Rattle.sheet.specs.Listed.{numbered}
 use Rattle.sheet.proofs.sets.AllItems.{items-of-all}
-use Rattle.sheet.proofs.listing.Listed.{listed-is}
 use Rattle.bundling.specs.Bundles.{bundle}
 use Rattle.printed_lines.specs.PrintedLines.{cut_pile}
 use Rattle.writing.proofs.Written.{nothing, ◌then◌}
@@ -20,10 +18,10 @@ module _ (c : After-bundle_of-bundle) where
   abbrev next-bundle : List ℕ
   next-bundle = bundle (range 1 c.args.items) c.args.partition (c.loop-i.i + 1)
 
-  bundle-is : c.bundle_of-bundle.result ≡ numbered next-bundle
+  bundle-is : c.bundle_of-bundle.result ≡ next-bundle
   bundle-is =
       let named = ap items_of c.all_items-set.ensures ∙ items-of-all c.args.items (omega arith) in
-      c.bundle_of-bundle.ensures ∙ ap (λ ks. numbered (bundle ks c.args.partition (c.loop-i.i + 1))) named
+      c.bundle_of-bundle.ensures ∙ ap (λ ks. bundle ks c.args.partition (c.loop-i.i + 1)) named
 
 pub loop-i-init : goal.loop-i-init
 unfolding flat_map
@@ -35,7 +33,7 @@ loop-i-preserved c =
     let a = c.args in
     let at-bundle = (goal.at.loop-i-preserved c).After-bundle_of-bundle in
     rw (flat_map-next (bundle_text a.items a.partition) l.i)
-    (l.invariant then (c.byte.ensures then rw (listed-is (next-bundle at-bundle) (bundle-is at-bundle)) at c.group.ensures))
+    (l.invariant then (c.byte.ensures then rw (c.as_slice.ensures.same ∙ bundle-is at-bundle) at c.group.ensures))
 
 pub returns : goal.returns
 returns c =

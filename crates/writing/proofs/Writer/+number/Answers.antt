@@ -11,6 +11,6 @@ pub returns : goal.returns
 returns t c =
     let n = c.args.n in
     elim c.if-n-ge10.branch [
-      then-n-ge10 w ↦ rw (decimal-last n (omega arith)) (w.number.ensures then rw w.self-is at c.byte.ensures)
-    | else-n-ge10 w ↦ let last : n % 10 ≡ n = omega arith in rw (decimal_digit n (omega arith)) (search rules)
+      | then-n-ge10 w ↦ rw (decimal-last n (omega arith)) (w.number.ensures then rw w.self-is at c.byte.ensures)
+      | else-n-ge10 w ↦ let last : n % 10 ≡ n = omega arith in rw (decimal_digit n (omega arith)) (search rules)
     ]
