@@ -26,23 +26,17 @@ pub struct Assessed {
 fn grade_by(agents: usize, compared: Compared, shares: Amounts, margins: Margins) -> u8
     ensures { result ≡ grade_by_amounts (min agents most_agents) compared shares margins }
 {
-    let own = compared.own;
-    let greatest = compared.greatest;
-    if each_at_most(greatest, own, agents) {
-        return 1;
+    if each_at_most(compared.greatest, compared.own, agents) {
+        1
+    } else if each_at_most(compared.totals, compared.multiples, agents) {
+        2
+    } else if each_at_most(shares, compared.own, agents) {
+        3
+    } else if none_negative(margins, agents) {
+        4
+    } else {
+        5
     }
-    let multiples = compared.multiples;
-    let totals = compared.totals;
-    if each_at_most(totals, multiples, agents) {
-        return 2;
-    }
-    if each_at_most(shares, own, agents) {
-        return 3;
-    }
-    if none_negative(margins, agents) {
-        return 4;
-    }
-    5
 }
 
 // What any allocation comes to, by the terms and the shares. Agents and items above the limits of a sheet, and items in a bundle above
@@ -50,11 +44,10 @@ fn grade_by(agents: usize, compared: Compared, shares: Amounts, margins: Margins
 pub fn assess(table: Table, sheet: Sheet, terms: Terms, shares: Amounts, bundles: Sets) -> Assessed
     ensures { result ≡ assessed (assessment_in (contents sheet table) terms shares bundles) }
 {
-    let agents = sheet.agents;
-    let compared = compare(table, agents, sheet.items, bundles);
+    let compared = compare(table, sheet, bundles);
     let worths = compared.own;
-    let margins = margins_of(agents, terms, worths, shares);
-    let grade = grade_by(agents, compared, shares, margins);
+    let margins = margins_of(sheet.agents, terms, worths, shares);
+    let grade = grade_by(sheet.agents, compared, shares, margins);
     Assessed {
         worths,
         margins,

@@ -1,7 +1,7 @@
--- The loop's invariant: the greatest value of the first i bundles is found.
+-- The loop's invariant: the greatest value of the first bundles is found.
 use mathlib.Core.Path.{◌≡◌}
 use mathlib.Core.List.{List, [], map}
-use Prim.Native.Nat.{ℕ, ◌-◌, ◌≤◌, min}
+use Prim.Native.Nat.{ℕ, min}
 use Rattle.lists.specs.Lists.{nth}
 use Rattle.lists.specs.Sums.{greatest_of}
 use Rattle.sheet.specs.Limits.{most_items}
@@ -14,8 +14,5 @@ use Rattle.grade_amounts.proofs.greatest_in_use.Given as goal
 abbrev seen : List ℕ → ℕ → List ℕ → ℕ → ℕ
 seen valuation items bundles j = value (all_values (min items most_items) valuation) (nth [] (map items_of bundles) j)
 
-abbrev pub invariant-loop-i : goal.invariant-loop-i
-invariant-loop-i l = (l.i ≤ l.agents) × (l.most ≡ greatest_of (seen l.valuation l.items l.bundles) l.i)
-
-abbrev pub decreases-loop-i : goal.decreases-loop-i
-decreases-loop-i l = l.agents - l.i
+abbrev pub invariant-loop-bundle : goal.invariant-loop-bundle
+invariant-loop-bundle l = l.most ≡ greatest_of (seen l.valuation l.items l.fn.bundles) l.bundle-index

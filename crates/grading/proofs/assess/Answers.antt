@@ -34,13 +34,13 @@ assessment_of s = let a = s.args in assessment_in (contents a.sheet a.table) a.t
 
 worths-told : (c : After-grade_by-grade) → c.compare-compared.result.own ≡ padded most_agents 0 (assessment_of c.before.before.before.before).worths
 unfolding assessment_in compared
-worths-told c = ap (λ (r : Compared). r.own) c.compare-compared.ensures.0
+worths-told c = ap (λ (r : Compared). r.own) c.compare-compared.ensures.amounts
 
 margins-told : (c : After-grade_by-grade) → c.margins_of-margins.result ≡ padded most_agents (pos 0) (assessment_of c.before.before.before.before).margins
 unfolding assessment_in
 margins-told c =
     let a = c.args in
-    let small : SmallAmounts (padded most_agents 0 (own_values (agents_of c.before.before.before.before) (rows_of c.before.before.before.before) (bundles_of c.before.before.before.before))) = rw (worths-told c) at c.compare-compared.ensures.1 in
+    let small : SmallAmounts (padded most_agents 0 (own_values (agents_of c.before.before.before.before) (rows_of c.before.before.before.before) (bundles_of c.before.before.before.before))) = rw (worths-told c) at c.compare-compared.ensures.bound in
     c.margins_of-margins.ensures
     ∙ ap (λ worths. margins_stored a.sheet.agents a.terms worths a.shares) (worths-told c)
     ∙ ap (padded most_agents (pos 0)) (margins-by-amounts (agents_of c.before.before.before.before) (rows_of c.before.before.before.before) (bundles_of c.before.before.before.before) a.shares a.terms small)
@@ -51,7 +51,7 @@ grade-told c =
     c.grade_by-grade.ensures
     ∙ grade-by-amounts (agents_of c.before.before.before.before) (rows_of c.before.before.before.before) (bundles_of c.before.before.before.before) c.args.shares
     (λ i. margin (limited_terms c.args.terms) (nth 0 (own_values (agents_of c.before.before.before.before) (rows_of c.before.before.before.before) (bundles_of c.before.before.before.before)) i) (nth 0 (map (λ share. min share greatest_sum) c.args.shares) i))
-    c.compare-compared.ensures.0 (margins-told c)
+    c.compare-compared.ensures.amounts (margins-told c)
 
 pub returns : goal.returns
 returns c = made (worths-told c) (margins-told c) (grade-told c)
