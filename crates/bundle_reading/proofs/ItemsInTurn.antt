@@ -9,19 +9,17 @@ use native.Mathlib.Nat.{zero-add, add-zero, add_assoc, pow-suc, pow-le-pow_right
 use native.Mathlib.Omega.{arith}
 use lib.Dec.{leb, ltb}
 use borrow.Author.Tests.{lt-ltb, le-ltb, le-leb, lt-leb}
-use Rattle.sheet.specs.Limits.{count_digits, most_items}
+use Rattle.sheet.specs.Limits.{count_digits}
 use Rattle.sheet.specs.Sets.{set_of}
 use Rattle.tokens.specs.Tokens.{Token}
 use Rattle.tokeniser.specs.Behind.{place_left}
 use Rattle.tokeniser.specs.declared.Cursor.{Cursor}
 use Rattle.lexing.specs.Forms.{◌>>=◌}
 use Rattle.lexing.specs.Numbers.{is_number, digits_after, number}
-use Rattle.lexing.specs.Results.{answer_from}
+use Rattle.lexing.specs.Results.{found_from}
 use Rattle.lexing.proofs.readers.Tested.{number_passed}
 use Rattle.bundle_reading.specs.Bundles.{rising_items}
 use Rattle.bundle_reading.specs.Results.{bundle_from}
-use Rattle.bundle_reading.specs.declared.Bundle.{Bundle}
-use Rattle.bundle_reading.specs.declared.Bundle.TheVariants.{Items, Missed}
 
 module _ (items above : ℕ) where
   -- no number is left
@@ -55,23 +53,23 @@ module _ (items above : ℕ) where
       item-rises h l = item-read ts e ∙ rw (lt-ltb above k h, le-leb k items l)
 
 -- what is answered for items that are read behind those of a set
-abbrev pub behind_set : ℕ → List ℕ → Cursor → Option (List ℕ × List Token) → Bundle
-behind_set set s c o = answer_from Missed (λ items next. Items (set + set_of items) next) s c o
+abbrev pub behind_set : ℕ → List ℕ → Cursor → Option (List ℕ × List Token) → Option (ℕ × Cursor)
+behind_set set s c o = found_from (λ items. set + set_of items) s c o
 
 -- before any is read, with one more, and when none is left
 module _ (s : List ℕ) (c : Cursor) where
   pub none_before : (o : Option (List ℕ × List Token)) → bundle_from s c o ≡ behind_set 0 s c o
-  unfolding answer_from
+  unfolding found_from
   none_before None = refl
   none_before (Some (l, ts)) = rw (zero-add (set_of l))
 
   pub item-before : (set k : ℕ) (o : Option (List ℕ × List Token)) → behind_set set s c (o >>= (λ r. Some (k ∷ r.0, r.1))) ≡ behind_set (set + 2 ^ (k - 1)) s c o
-  unfolding answer_from
+  unfolding found_from
   item-before set k None = refl
   item-before set k (Some (l, ts)) = rw (add_assoc set (2 ^ (k - 1)) (set_of l))
 
-  pub all-before : (set : ℕ) (ts : List Token) → behind_set set s c (Some ([], ts)) ≡ Items set (place_left s c ts)
-  unfolding answer_from
+  pub all-before : (set : ℕ) (ts : List Token) → behind_set set s c (Some ([], ts)) ≡ Some (set, place_left s c ts)
+  unfolding found_from
   all-before set ts = rw (add-zero set)
 
 -- the bit of a higher item
@@ -81,7 +79,3 @@ higher-item set above k small higher =
     let power : 2 ^ above ≤ 2 ^ (k - 1) = pow-le-pow_right {n = 2} (omega arith) lower in
     let last : suc (k - 1) ≡ k = omega arith in
     omega (arith, pow-suc 2 (k - 1), ap (λ n. 2 ^ n) last)
-
--- sets of the items of a sheet are small
-pub item-power : (k : ℕ) → k ≤ most_items → 2 ^ k ≤ 4096
-item-power k few = pow-le-pow_right {n = 2} (omega arith) few

@@ -1,10 +1,9 @@
 -- What is left behind a bundle is the end of the tokens, and where it is left. Assumes nothing.
-use mathlib.Core.Path.{◌≡◌, refl}
+use mathlib.Core.Path.{◌≡◌}
 use mathlib.Core.List.{List, [], ◌∷◌, suffix_refl, suffix-cons}
-use Rattle.std.specs.Prelude.{Option, None, Some}
+use Rattle.std.specs.Prelude.{None, Some}
 use mathlib.Core.Bool.{Bool, true, false, cond, ◌&&◌}
 use Prim.Native.Nat.{ℕ}
-use native.Mathlib.Omega.{arith}
 use lib.Dec.{leb, ltb}
 use Rattle.sheet.specs.Limits.{count_digits}
 use Rattle.sheet.specs.Sets.{set_of}
@@ -13,12 +12,10 @@ use Rattle.tokeniser.specs.Places.{tokens_at}
 use Rattle.tokeniser.specs.declared.Cursor.{Cursor}
 use Rattle.lexing.specs.Forms.{◌>>=◌, form, follow}
 use Rattle.lexing.specs.Numbers.{is_number, digits_after}
-use Rattle.lexing.specs.Results.{answer_from}
 use Rattle.lexing.proofs.readers.Suffixes.{LeavesEnd, end-of-end, then-leaves, follow-leaves}
-use Rattle.lexing.proofs.readers.Places.{ReadTo, read-to}
+use Rattle.lexing.proofs.readers.Places.{Found, found-to}
 use Rattle.bundle_reading.specs.Bundles.{pile_end, rising_items, bundle_after}
 use Rattle.bundle_reading.specs.Results.{bundle_from}
-use Rattle.bundle_reading.specs.declared.Bundle as bundle
 
 pub rising_items-leaves : (items above : ℕ) (ts : List Token) → LeavesEnd (λ r. r.1) ts (rising_items items above ts)
 unfolding rising_items
@@ -42,26 +39,7 @@ bundle_after-leaves fs items ts =
     (λ us. then-leaves us (rising_items items 0 us) _ (λ r. r.1) (λ r. r.1) (rising_items-leaves items 0 us)
     (λ r. then-leaves r.1 (follow (form pile_end) r.1) _ (λ vs. vs) (λ q. q.1) (follow-leaves (form pile_end) r.1) (λ vs. suffix_refl vs)))
 
--- what a reader of a bundle has read, where it answers a set
-pub record ReadAsSet (s : List ℕ) (c : Cursor) (o : Option (List ℕ × List Token)) (set : ℕ) (c' : Cursor) : Type 0 where
-  pub items : List ℕ
-  pub to : ReadTo s c o (λ ts. (items, ts)) c'
-  pub is_set : set ≡ set_of items
-
--- a bundle is missed, or it is read
-module _ (s : List ℕ) (c : Cursor) where
-  pub bundle-missed : (o : Option (List ℕ × List Token)) {r : bundle.Bundle} → r ≡ bundle_from s c o → r ≡ bundle.TheVariants.Missed → o ≡ None
-  unfolding answer_from
-  bundle-missed None told e = refl
-  bundle-missed (Some q) told e = cc
-
-  pub bundle-to : (o : Option (List ℕ × List Token)) {r : bundle.Bundle} {set : ℕ} {c' : Cursor} → LeavesEnd (λ q. q.1) (tokens_at s c) o → r ≡ bundle_from s c o
-      → r ≡ bundle.TheVariants.Items set c' → ReadAsSet s c o set c'
-  unfolding answer_from
-  bundle-to None last told e = let z : ◌≡◌ {A = ℕ} 0 1 = cc in absurd (omega arith)
-  bundle-to (Some (l, ts)) last told e = record { items = l; to = read-to (λ us. (l, us)) last (cc); is_set = cc }
-
-  -- a bundle behind a form
-  pub bundle_after-read : (fs : List Token) (items : ℕ) {r : bundle.Bundle} {set : ℕ} {c' : Cursor} → r ≡ bundle_from s c (bundle_after fs items (tokens_at s c))
-      → r ≡ bundle.TheVariants.Items set c' → ReadAsSet s c (bundle_after fs items (tokens_at s c)) set c'
-  bundle_after-read fs items told e = bundle-to (bundle_after fs items (tokens_at s c)) (bundle_after-leaves fs items (tokens_at s c)) told e
+-- a bundle behind a form, where it is read
+pub bundle_after-read : (s : List ℕ) (c : Cursor) (fs : List Token) (items : ℕ) {set : ℕ} {c' : Cursor} → Some (set, c') ≡ bundle_from s c (bundle_after fs items (tokens_at s c))
+    → Found s c set_of (bundle_after fs items (tokens_at s c)) set c'
+bundle_after-read s c fs items told = found-to s c set_of (bundle_after fs items (tokens_at s c)) (bundle_after-leaves fs items (tokens_at s c)) told

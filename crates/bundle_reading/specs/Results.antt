@@ -4,9 +4,8 @@ use Rattle.std.specs.Prelude.{List, ℕ, Option}
 use Rattle.sheet.specs.Sets.{set_of}
 use Rattle.tokens.specs.Tokens.{Token}
 use Rattle.tokeniser.specs.declared.Cursor.{Cursor}
-use Rattle.lexing.specs.Results.{answer_from}
-use Rattle.bundle_reading.specs.declared.Bundle as bundle
+use Rattle.lexing.specs.Results.{found_from}
 
 -- a bundle, as a set
-abbrev pub bundle_from : List ℕ → Cursor → Option (List ℕ × List Token) → bundle.Bundle
-bundle_from s c o = answer_from bundle.TheVariants.Missed (λ items next. bundle.TheVariants.Items (set_of items) next) s c o
+abbrev pub bundle_from : List ℕ → Cursor → Option (List ℕ × List Token) → Option (ℕ × Cursor)
+bundle_from s c o = found_from set_of s c o

@@ -1,24 +1,23 @@
 -- What is left behind the numbers of a division is the end of the tokens, and where it is left. Assumes nothing.
-use mathlib.Core.Path.{◌≡◌, refl}
+use mathlib.Core.Path.{◌≡◌, refl, sym, ap}
 use mathlib.Core.List.{List, suffix_refl}
 use Rattle.std.specs.Prelude.{Option, None, Some}
+use Rattle.std.proofs.lemmas.Option.{same_Some}
 use Prim.Native.Nat.{ℕ}
-use native.Mathlib.Omega.{arith}
 use Rattle.sheet.specs.Limits.{count_digits, sum_digits}
 use Rattle.tokens.specs.Tokens.{Token}
 use Rattle.tokeniser.specs.Places.{tokens_at}
+use Rattle.tokeniser.specs.Behind.{place_left}
 use Rattle.tokeniser.specs.declared.Cursor.{Cursor}
 use Rattle.lexing.specs.Forms.{form, follow}
 use Rattle.lexing.specs.Numbers.{number_after, follow_number}
 use Rattle.lexing.specs.Results.{number_from}
-use Rattle.lexing.specs.declared.forms.Number as number
 use Rattle.lexing.proofs.readers.Suffixes.{LeavesEnd, then-leaves, follow-leaves, number_after-leaves, follow_number-leaves}
 use Rattle.lexing.proofs.readers.Places.{ReadTo, read-to, number-to}
 use Rattle.sheet_lines.specs.SheetForms.{before_items, line_end}
 use Rattle.division_numbers.specs.Forms.{before_counts, before_grade, before_worth, before_share, before_cut}
 use Rattle.division_numbers.specs.Numbers.{grade_digits, stated_amounts, division_head}
 use Rattle.division_numbers.specs.Results.{amounts_from}
-use Rattle.division_numbers.specs.declared.StatedAmounts as stated
 
 pub stated_amounts-leave : (ts : List Token) → LeavesEnd (λ r. r.2) ts (stated_amounts ts)
 unfolding stated_amounts
@@ -37,25 +36,30 @@ division_head-leaves agents items ts =
 
 module _ (s : List ℕ) (c : Cursor) where
   -- a worth and a share are missed, or they are read
-  pub stated_amounts-missed : (o : Option (ℕ × ℕ × List Token)) {r : stated.StatedAmounts} → r ≡ amounts_from s c o → r ≡ stated.TheVariants.Missed → o ≡ None
+  pub stated_amounts-missed : (o : Option (ℕ × ℕ × List Token)) → None ≡ amounts_from s c o → o ≡ None
   unfolding amounts_from
-  stated_amounts-missed None told e = refl
-  stated_amounts-missed (Some q) told e = cc
+  stated_amounts-missed None told = refl
+  stated_amounts-missed (Some q) told = cc
 
-  stated_amounts-to : (o : Option (ℕ × ℕ × List Token)) {r : stated.StatedAmounts} {worth share : ℕ} {c' : Cursor} → LeavesEnd (λ q. q.2) (tokens_at s c) o → r ≡ amounts_from s c o
-      → r ≡ stated.TheVariants.Values worth share c' → ReadTo s c o (λ ts. (worth, share, ts)) c'
+  pub none-stated : {o : Option (ℕ × ℕ × List Token)} → o ≡ None → None ≡ amounts_from s c o
   unfolding amounts_from
-  stated_amounts-to None last told e = let z : ◌≡◌ {A = ℕ} 0 1 = cc in absurd (omega arith)
-  stated_amounts-to (Some (w, h, ts)) {worth = worth} {share = share} last told e =
-      let same : w ≡ worth = cc in
-      let same-share : h ≡ share = cc in
-      rw (same, same-share) (read-to (λ us. (worth, share, us)) last (cc))
+  none-stated e = rw e
 
-  pub stated_amounts-read : {r : stated.StatedAmounts} {worth share : ℕ} {c' : Cursor} → r ≡ amounts_from s c (stated_amounts (tokens_at s c)) → r ≡ stated.TheVariants.Values worth share c'
+  stated_amounts-to : (o : Option (ℕ × ℕ × List Token)) {worth share : ℕ} {c' : Cursor} → LeavesEnd (λ q. q.2) (tokens_at s c) o → Some (worth, share, c') ≡ amounts_from s c o
+      → ReadTo s c o (λ ts. (worth, share, ts)) c'
+  unfolding amounts_from
+  stated_amounts-to None last told = absurd (cc)
+  stated_amounts-to (Some (w, h, ts)) {worth = worth} {share = share} {c' = c'} last told =
+      let same = same_Some (worth, share, c') (w, h, place_left s c ts) told in
+      let same-worth : w ≡ worth = sym (ap (λ r. r.0) same) in
+      let same-share : h ≡ share = sym (ap (λ r. r.1) same) in
+      rw (same-worth, same-share) (read-to (λ us. (worth, share, us)) last (ap (λ r. r.2) same))
+
+  pub stated_amounts-read : {worth share : ℕ} {c' : Cursor} → Some (worth, share, c') ≡ amounts_from s c (stated_amounts (tokens_at s c))
       → ReadTo s c (stated_amounts (tokens_at s c)) (λ ts. (worth, share, ts)) c'
-  stated_amounts-read told e = stated_amounts-to (stated_amounts (tokens_at s c)) (stated_amounts-leave (tokens_at s c)) told e
+  stated_amounts-read told = stated_amounts-to (stated_amounts (tokens_at s c)) (stated_amounts-leave (tokens_at s c)) told
 
   -- the head, where it is read
-  pub division_head-read : (agents items : ℕ) {r : number.Number} {grade : ℕ} {c' : Cursor} → r ≡ number_from s c (division_head agents items (tokens_at s c)) → r ≡ number.TheVariants.Value grade c'
+  pub division_head-read : (agents items : ℕ) {grade : ℕ} {c' : Cursor} → Some (grade, c') ≡ number_from s c (division_head agents items (tokens_at s c))
       → ReadTo s c (division_head agents items (tokens_at s c)) (λ ts. (grade, ts)) c'
-  division_head-read agents items told e = number-to s c (division_head agents items (tokens_at s c)) (division_head-leaves agents items (tokens_at s c)) told e
+  division_head-read agents items told = number-to s c (division_head agents items (tokens_at s c)) (division_head-leaves agents items (tokens_at s c)) told

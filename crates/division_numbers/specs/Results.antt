@@ -4,9 +4,8 @@ use Rattle.std.specs.Prelude.{List, ℕ, Option, None, Some}
 use Rattle.tokens.specs.Tokens.{Token}
 use Rattle.tokeniser.specs.Behind.{place_left}
 use Rattle.tokeniser.specs.declared.Cursor.{Cursor}
-use Rattle.division_numbers.specs.declared.StatedAmounts as amounts
 
 -- a worth and a share
-unfoldable pub amounts_from : List ℕ → Cursor → Option (ℕ × ℕ × List Token) → amounts.StatedAmounts
-amounts_from s c None = amounts.TheVariants.Missed
-amounts_from s c (Some (worth, share, ts)) = amounts.TheVariants.Values worth share (place_left s c ts)
+unfoldable pub amounts_from : List ℕ → Cursor → Option (ℕ × ℕ × List Token) → Option (ℕ × ℕ × Cursor)
+amounts_from s c None = None
+amounts_from s c (Some (worth, share, ts)) = Some (worth, share, place_left s c ts)

@@ -7,7 +7,7 @@ ghost use Rattle.lexing.specs.Results.{number_from};
 ghost use Rattle.division_numbers.specs.Numbers.{stated_amounts, division_head};
 ghost use Rattle.division_numbers.specs.Results.{amounts_from};
 
-use lexing::forms::{Followed, Number, follow, follow_number, number_after};
+use lexing::forms::{follow, follow_number, number_after};
 use sheet::Sheet;
 use sheet_lines::forms::{BEFORE_ITEMS, LINE_END};
 use tokeniser::Cursor;
@@ -27,44 +27,23 @@ const BEFORE_CUT: [u8; 6] = *b") (cut";
 // The digits of a grade.
 const GRADE_DIGITS: usize = 1;
 
-// A worth and a share, and the place after them.
-#[derive(Clone, Copy)]
-pub enum StatedAmounts {
-    Values(u64, u64, Cursor),
-    Missed,
-}
-
-// (worth 5) (share 5) (cut
-pub fn read_amounts(s: &[u8], c: Cursor) -> StatedAmounts
+// A worth, a share, and the place after them: (worth 5) (share 5) (cut
+pub fn read_amounts(s: &[u8], c: Cursor) -> Option<(u64, u64, Cursor)>
     ensures { result ≡ amounts_from s.now c (stated_amounts (tokens_at s.now c)) }
 {
-    let Number::Value(worth, c1) = number_after(s, c, &BEFORE_WORTH, Sheet::SUM_DIGITS) else {
-        return StatedAmounts::Missed;
-    };
-    let Number::Value(share, c2) = number_after(s, c1, &BEFORE_SHARE, Sheet::SUM_DIGITS) else {
-        return StatedAmounts::Missed;
-    };
-    let Followed::At(c3) = follow(s, c2, &BEFORE_CUT) else {
-        return StatedAmounts::Missed;
-    };
-    StatedAmounts::Values(worth, share, c3)
+    let (worth, c1) = number_after(s, c, &BEFORE_WORTH, Sheet::SUM_DIGITS)?;
+    let (share, c2) = number_after(s, c1, &BEFORE_SHARE, Sheet::SUM_DIGITS)?;
+    let next = follow(s, c2, &BEFORE_CUT)?;
+    Some((worth, share, next))
 }
 
-// (division (yards 2) (pieces 3) (grade 3))
-pub fn read_head(s: &[u8], c: Cursor, agents: usize, items: usize) -> Number
+// The grade, and the place after the head: (division (yards 2) (pieces 3) (grade 3))
+pub fn read_head(s: &[u8], c: Cursor, agents: usize, items: usize) -> Option<(u64, Cursor)>
     ensures { result ≡ number_from s.now c (division_head agents items (tokens_at s.now c)) }
 {
-    let Followed::At(c1) = follow_number(s, c, &BEFORE_COUNTS, Sheet::COUNT_DIGITS, agents) else {
-        return Number::Missed;
-    };
-    let Followed::At(c2) = follow_number(s, c1, &BEFORE_ITEMS, Sheet::COUNT_DIGITS, items) else {
-        return Number::Missed;
-    };
-    let Number::Value(grade, c3) = number_after(s, c2, &BEFORE_GRADE, GRADE_DIGITS) else {
-        return Number::Missed;
-    };
-    let Followed::At(c4) = follow(s, c3, &LINE_END) else {
-        return Number::Missed;
-    };
-    Number::Value(grade, c4)
+    let c1 = follow_number(s, c, &BEFORE_COUNTS, Sheet::COUNT_DIGITS, agents)?;
+    let c2 = follow_number(s, c1, &BEFORE_ITEMS, Sheet::COUNT_DIGITS, items)?;
+    let (grade, c3) = number_after(s, c2, &BEFORE_GRADE, GRADE_DIGITS)?;
+    let next = follow(s, c3, &LINE_END)?;
+    Some((grade, next))
 }

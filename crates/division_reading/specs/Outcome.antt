@@ -1,6 +1,6 @@
 -- How the code's result stands for what is read of a division: bundles as 16-bit sets, lines and cuts in six places. Assumes nothing:
 -- these are definitions.
-use Rattle.std.specs.Prelude.{List, map, true, false, ℕ, replicate, Option, None, Some}
+use Rattle.std.specs.Prelude.{List, map, ℕ, replicate, Option, option_map}
 use Rattle.lists.specs.Lists.{padded, zeros}
 use Rattle.sheet.specs.Limits.{most_agents}
 use Rattle.sheet.specs.Sets.{set_of}
@@ -26,7 +26,10 @@ blank_lines = replicate most_agents blank_line
 abbrev pub kept_lines : List StatedLine → List line.StatedLine
 kept_lines lines = padded most_agents blank_line (map kept_line lines)
 
+-- all that a division states
+abbrev pub kept_division : Stated → stated.Stated
+kept_division d = record { grade = d.grade; lines = kept_lines d.lines }
+
 -- nothing is read, or all that the division states
-abbrev pub kept : Option Stated → stated.Stated
-kept None = record { read = false; grade = 0; lines = blank_lines }
-kept (Some d) = record { read = true; grade = d.grade; lines = kept_lines d.lines }
+abbrev pub kept : Option Stated → Option stated.Stated
+kept o = option_map kept_division o

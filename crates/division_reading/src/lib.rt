@@ -1,15 +1,14 @@
 // Reading a division, as members bring it, at a place of a text: all that it states, or that it is off the layout.
 #![tactic(auto)]
 
-ghost use Rattle.std.specs.Prelude.{◌≡◌, None};
+ghost use Rattle.std.specs.Prelude.{◌≡◌};
 ghost use Rattle.tokeniser.specs.Places.{tokens_at};
 ghost use Rattle.division_reading.specs.Grammar.{reading_division};
-ghost use Rattle.division_reading.specs.Outcome.{blank_line, blank_lines, kept};
+ghost use Rattle.division_reading.specs.Outcome.{kept};
 
 use division_numbers::read_head;
-use lexing::forms::{Followed, Number};
 use sheet::{Sets, Sheet};
-use sheet_lines::end::end_line;
+use sheet_lines::end::end_of_text;
 use tokeniser::Cursor;
 
 pub mod forms;
@@ -24,70 +23,35 @@ pub struct StatedLine {
     pub cut: Sets,
 }
 
-// What a division states, where it is read.
-#[derive(Clone, Copy)]
-pub struct Stated {
-    pub read: bool,
-    pub grade: u8,
-    pub lines: [StatedLine; Sheet::AGENTS],
-}
-
-// A line that is not in use.
-pub(crate) fn blank_line() -> StatedLine
-    ensures { result ≡ blank_line }
-{
-    StatedLine {
+impl StatedLine {
+    // A line that is not in use.
+    const BLANK: StatedLine = StatedLine {
         bundle: 0,
         worth: 0,
         share: 0,
         cut: [0; Sheet::AGENTS],
-    }
+    };
 }
 
-// No line in use.
-pub(crate) fn blank_lines() -> [StatedLine; Sheet::AGENTS]
-    ensures { result ≡ blank_lines }
-{
-    let blank = blank_line();
-    [blank; Sheet::AGENTS]
-}
-
-// A division that is not read.
-fn unread() -> Stated
-    ensures { result ≡ kept None }
-{
-    Stated {
-        read: false,
-        grade: 0,
-        lines: blank_lines(),
-    }
+// What a division states.
+#[derive(Clone, Copy)]
+pub struct Stated {
+    pub grade: u8,
+    pub lines: [StatedLine; Sheet::AGENTS],
 }
 
 // The division that stands at a place of a text and ends it, of a sheet with these counts.
-pub fn read_division(s: &[u8], c: Cursor, agents: usize, items: usize) -> Stated
+pub fn read_division(s: &[u8], c: Cursor, agents: usize, items: usize) -> Option<Stated>
     ensures { result ≡ kept (reading_division agents items (tokens_at s.now c)) }
 {
-    if Sheet::AGENTS < agents {
-        return unread();
+    if Sheet::AGENTS < agents || Sheet::ITEMS < items {
+        return None;
     }
-    if Sheet::ITEMS < items {
-        return unread();
-    }
-    let Number::Value(grade, first) = read_head(s, c, agents, items) else {
-        return unread();
-    };
-    let read = lines::division_lines(s, first, agents, items);
-    if !read.read {
-        return unread();
-    }
-    let last = read.next;
-    let Followed::At(_) = end_line(s, last, true) else {
-        return unread();
-    };
-    let lines = read.lines;
-    Stated {
-        read: true,
+    let (grade, first) = read_head(s, c, agents, items)?;
+    let (lines, last) = lines::division_lines(s, first, agents, items)?;
+    let _end = end_of_text(s, last)?;
+    Some(Stated {
         grade: grade as u8,
         lines,
-    }
+    })
 }

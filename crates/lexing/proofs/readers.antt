@@ -6,8 +6,7 @@ pub mod Follow
 pub mod InTurn
 pub mod Suffixes
 pub mod Places
-pub mod Answers
-pub mod Stored
+pub mod Gathered
 pub mod AlsoReads
 pub mod ReadBack
 pub mod Bounds

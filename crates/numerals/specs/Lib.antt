@@ -1,3 +1,2 @@
--- Numbers in decimal digits, by their bytes, and what reading them answers.
+-- Numbers in decimal digits, by their bytes.
 pub mod Numerals
-pub mod Outcome

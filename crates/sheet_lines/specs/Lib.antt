@@ -2,7 +2,6 @@
 -- private functions cite; no public contract does.
 pub mod SheetForms
 pub mod Grammar
-pub mod Alone
 pub mod Marks
 pub mod Kept
 pub mod Results

@@ -5,29 +5,20 @@ ghost use Rattle.sheet_lines.specs.Grammar.{head};
 ghost use Rattle.sheet_lines.specs.Results.{head_from};
 
 use crate::forms::{BEFORE_AGENTS, BEFORE_ITEMS, LINE_END};
-use lexing::forms::{Followed, Number, follow, number_after};
+use lexing::forms::{follow, number_after};
 use sheet::Sheet;
 use tokeniser::Cursor;
 
-// The counts of yards and pieces, and the place after the first line.
-#[derive(Clone, Copy)]
-pub enum Head {
-    Counts(usize, usize, Cursor),
-    Missed,
-}
-
-// (sheet (yards 2) (pieces 3))
-pub fn read_head(s: &[u8], c: Cursor) -> Head
+// (sheet (yards 2) (pieces 3)): the counts, which may lie outside the limits, and the place after the line.
+pub fn read_head(s: &[u8], c: Cursor) -> Option<(Sheet, Cursor)>
     ensures { result ≡ head_from s.now c (head (tokens_at s.now c)) }
 {
-    let Number::Value(agents, c1) = number_after(s, c, &BEFORE_AGENTS, Sheet::COUNT_DIGITS) else {
-        return Head::Missed;
+    let (agents, c1) = number_after(s, c, &BEFORE_AGENTS, Sheet::COUNT_DIGITS)?;
+    let (items, c2) = number_after(s, c1, &BEFORE_ITEMS, Sheet::COUNT_DIGITS)?;
+    let c3 = follow(s, c2, &LINE_END)?;
+    let counts = Sheet {
+        agents: agents as usize,
+        items: items as usize,
     };
-    let Number::Value(items, c2) = number_after(s, c1, &BEFORE_ITEMS, Sheet::COUNT_DIGITS) else {
-        return Head::Missed;
-    };
-    let Followed::At(c3) = follow(s, c2, &LINE_END) else {
-        return Head::Missed;
-    };
-    Head::Counts(agents as usize, items as usize, c3)
+    Some((counts, c3))
 }

@@ -4,6 +4,7 @@
 
 pub mod body;
 pub mod end;
+mod entries;
 pub mod forms;
 pub mod head;
 pub mod yards;

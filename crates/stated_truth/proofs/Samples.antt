@@ -1,6 +1,5 @@
 -- The division of sheet c of document 01, and divisions that differ from it in one thing, judged by computation. Assumes nothing.
 use mathlib.Core.Path.{◌≡◌, refl}
-use mathlib.Core.Bool.{true}
 use mathlib.Core.List.{List, [], ◌∷◌, map}
 use Rattle.std.specs.Prelude.{Option, None, Some}
 use Prim.Native.Nat.{ℕ}
@@ -78,7 +77,6 @@ samples-judged = refl
 abbrev handed : ℕ → stated.Stated
 handed set =
     record {
-      read = true;
       grade = 4;
       lines = record { bundle = set; worth = 2; share = 1; cut = 3 ∷ 4 ∷ 8 ∷ 0 ∷ 0 ∷ 0 ∷ [] }
           ∷ record { bundle = 4; worth = 3; share = 4; cut = 1 ∷ 2 ∷ 12 ∷ 0 ∷ 0 ∷ 0 ∷ [] }
@@ -90,6 +88,6 @@ handed set =
     }
 
 -- items 1 and 2; 1, 2 and 5, and 1, 2 and 16, which are not on the sheet; item 1 alone
-pub sets-judged : map (λ set. judging sheet_c (stated_in 3 (handed set))) (3 ∷ 19 ∷ 32771 ∷ 1 ∷ []) ≡ accepted margins ∷ refused 11 ∷ refused 11 ∷ refused 12 ∷ []
+pub sets-judged : map (λ set. judging sheet_c (stated_in 3 (Some (handed set)))) (3 ∷ 19 ∷ 32771 ∷ 1 ∷ []) ≡ accepted margins ∷ refused 11 ∷ refused 11 ∷ refused 12 ∷ []
 unfolding judging_by sharing shares_covered bundles_and_cuts of_sheet each_in_one figures_true line_true grade envy_free proportional maximin_fair profile maximin_share maximin_partition terms_for largest_odd margin items_of
 sets-judged = refl

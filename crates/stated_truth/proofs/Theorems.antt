@@ -1,10 +1,11 @@
 -- A division "is accepted exactly if all it states is true" (document 02, order 5), and then with the margins of its bundles. For every sheet and all
 -- terms, and for everything that a division can state. Assumes nothing.
 use mathlib.Core.Path.{◌≡◌, refl, sym, ap, ◌∙◌}
-use mathlib.Core.Bool.{Bool, true, false, cond, ◌&&◌, and-eq-true_iff}
+use mathlib.Core.Bool.{Bool, true, ◌&&◌, and-eq-true_iff}
 use mathlib.Core.Logic.{◌↔◌, ⊎_elim}
 use mathlib.Core.List.{List, Memᴰ as Mem}
 use Rattle.std.specs.Prelude.{Option, None, Some}
+use Rattle.std.proofs.lemmas.Option.{none-some, same_Some}
 use Prim.Native.Nat.{ℕ, ◌≤◌}
 use native.Mathlib.Omega.{arith}
 use lib.Dec.{eqb, leb}
@@ -144,22 +145,23 @@ module _ (sheet : Contents) (terms : Terms) (stated : Option Stated) (margins : 
   accepted-exactly-if-all-true = (accepted-true, true-accepted)
 
 -- the same of whatever the code is handed: lines in places, and sets that may name any items
-module _ (sheet : Contents) (terms : Terms) (handed : stated.Stated) (margins : List ℤ) where
+module _ (sheet : Contents) (terms : Terms) (margins : List ℤ) where
   -- what its lines state
-  abbrev division : Stated
-  division = stated_of sheet.agents handed.grade handed.lines
+  abbrev division : stated.Stated → Stated
+  division d = stated_of sheet.agents d.grade d.lines
 
-  was_read : (read : Bool) (d : Stated) → cond read (Some division) None ≡ Some d → (read ≡ true) × (division ≡ d)
-  was_read true d e = (refl, cc)
-  was_read false d e = let z : ◌≡◌ {A = ℕ} 0 1 = cc in absurd (omega arith)
-
-  pub handed-accepted-exactly-if-all-true : (judging_by sheet terms (stated_in sheet.agents handed) ≡ accepted margins)
-      ↔ ((handed.read ≡ true) × CountsWithin sheet.agents sheet.items × AllTrue sheet terms division × (margins ≡ margins_by_terms sheet terms (bundles_of division)))
-  handed-accepted-exactly-if-all-true =
-      let exactly = accepted-exactly-if-all-true sheet terms (stated_in sheet.agents handed) margins in (
+  pub handed-accepted-exactly-if-all-true : (handed : Option stated.Stated) → (judging_by sheet terms (stated_in sheet.agents handed) ≡ accepted margins)
+      ↔ ((d : stated.Stated) × (handed ≡ Some d) × CountsWithin sheet.agents sheet.items × AllTrue sheet terms (division d) × (margins ≡ margins_by_terms sheet terms (bundles_of (division d))))
+  handed-accepted-exactly-if-all-true None =
+      let exactly = accepted-exactly-if-all-true sheet terms None margins in (
+        λ e. let t = exactly.0 e in absurd (none-some _ t.was_read),
+        λ (d, was_read, counts, all_true, same). absurd (none-some _ was_read),
+      )
+  handed-accepted-exactly-if-all-true (Some handed) =
+      let exactly = accepted-exactly-if-all-true sheet terms (Some (division handed)) margins in (
         λ e.
             let t = exactly.0 e in
-            let (read, same) = was_read handed.read t.division t.was_read in
-            (read, t.counts, rw same t.all_true, t.margins_given ∙ ap (λ d. margins_by_terms sheet terms (bundles_of d)) (sym same)),
-        λ (read, counts, all_true, same). exactly.1 (record { counts = counts; division = division; was_read = rw read; all_true = all_true; margins_given = same }),
+            let same : division handed ≡ t.division = same_Some _ _ t.was_read in
+            (handed, refl, t.counts, rw same t.all_true, t.margins_given ∙ ap (λ d. margins_by_terms sheet terms (bundles_of d)) (sym same)),
+        λ (d, was_read, counts, all_true, same). exactly.1 (record { counts = counts; division = division d; was_read = ap (stated_in sheet.agents) was_read; all_true = all_true; margins_given = same }),
       )

@@ -1,5 +1,5 @@
 -- A division as the code has it, its lines in six places, and what it states. Assumes nothing: these are definitions.
-use Rattle.std.specs.Prelude.{Bool, cond, ◌&&◌, List, [], map, ℕ, eqb, leb, take, Option, None, Some}
+use Rattle.std.specs.Prelude.{Bool, ◌&&◌, List, [], map, ℕ, eqb, leb, take, Option, None, Some}
 use Rattle.lists.specs.Lists.{range, nth, all}
 use Rattle.lists.specs.Sums.{least_of}
 use Rattle.sheet.specs.Sets.{items_of}
@@ -22,8 +22,9 @@ abbrev pub stated_of : ℕ → ℕ → List line.StatedLine → Stated
 stated_of n grade lines = record { grade = grade; lines = map (stated_line n) (take n lines) }
 
 -- what is stated of n agents, where it was read
-abbrev pub stated_in : ℕ → stated.Stated → Option Stated
-stated_in n d = cond d.read (Some (stated_of n d.grade d.lines)) None
+abbrev pub stated_in : ℕ → Option stated.Stated → Option Stated
+stated_in n None = None
+stated_in n (Some d) = Some (stated_of n d.grade d.lines)
 
 module _ (n : ℕ) (test : List (List ℕ) → Bool) where
   -- whether the bundles of the cut pass a test, in each line

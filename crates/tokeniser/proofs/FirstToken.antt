@@ -1,56 +1,30 @@
 -- The token at the front of a text: a bracket, a line feed, or the longest run of word bytes. Assumes nothing.
 use mathlib.Core.Path.{◌≡◌, refl}
-use mathlib.Core.List.{List, [], ◌∷◌}
+use mathlib.Core.Logic.{⊎_elim}
+use mathlib.Core.List.{List, ◌∷◌}
 use mathlib.Core.Bool.{Bool, true, false, not, cond, ◌&&◌}
-use Prim.Native.Nat.{ℕ, zero, suc, ◌+◌, ◌≤◌, ◌<◌}
-use native.Mathlib.Nat.{add-zero}
+use Prim.Native.Nat.{ℕ, zero, suc, ◌≤◌, ◌<◌}
 use native.Mathlib.Omega.{arith}
-use lib.ListN.{length, get_or, take, drop, drop_of_length-le}
+use lib.ListN.{length, get_or, take, drop, get_or-eq_default}
 use lib.Dec.{eqb}
-use Rattle.lists.proofs.places.Passing.{drop-next}
+use Rattle.std.proofs.lemmas.List.Sums.{prefix_len-le-length, prefix_len_passes, prefix_len_stops}
+use Rattle.lists.proofs.Cases.{lt-or-ge}
 use Rattle.tokens.specs.Lines.{line_feed, space, semicolon}
 use Rattle.tokens.specs.Tokens.{is_bracket, is_word_byte}
 use Rattle.tokens.specs.TokensAfter.{tokens_after, is_delimiter, counts_for_nothing}
 use Rattle.tokens.proofs.texts.Words.{word-token, delimiter-token, no-delimiter}
 use Rattle.tokeniser.specs.internal.Scanned.{word_bytes, token_bytes}
 
--- a run of word bytes stays within the text, has word bytes only, and ends at another byte or at the end of the text
-word_bytes-within : (s : List ℕ) → word_bytes s ≤ length s
-unfolding word_bytes
-word_bytes-within [] = omega arith
-word_bytes-within (b ∷ bs) = go (is_word_byte b) (word_bytes-within bs)
-  where
-    go : (word : Bool) → word_bytes bs ≤ length bs → cond word (suc (word_bytes bs)) 0 ≤ suc (length bs)
-    go true later = omega arith
-    go false later = omega arith
-
-word_bytes-each : (s : List ℕ) (k : ℕ) → k < word_bytes s → is_word_byte (get_or s k space) ≡ true
-unfolding word_bytes
-word_bytes-each [] k h = absurd (omega arith)
-word_bytes-each (b ∷ bs) k h = go (is_word_byte b) refl k h (word_bytes-each bs)
-  where
-    go : (word : Bool) → is_word_byte b ≡ word → (k : ℕ) → k < cond word (suc (word_bytes bs)) 0
-        → ((j : ℕ) → j < word_bytes bs → is_word_byte (get_or bs j space) ≡ true) → is_word_byte (get_or (b ∷ bs) k space) ≡ true
-    go false e k h later = absurd (omega arith)
-    go true e zero h later = e
-    go true e (suc k) h later = later k (omega arith)
-
+-- a run of word bytes ends at another byte or at the end of the text
 word_bytes-stop : (s : List ℕ) → is_word_byte (get_or s (word_bytes s) space) ≡ false
-unfolding word_bytes
-word_bytes-stop [] = refl
-word_bytes-stop (b ∷ bs) = go (is_word_byte b) refl (word_bytes-stop bs)
-  where
-    go : (word : Bool) → is_word_byte b ≡ word → is_word_byte (get_or bs (word_bytes bs) space) ≡ false
-        → is_word_byte (get_or (b ∷ bs) (cond word (suc (word_bytes bs)) 0) space) ≡ false
-    go false e later = e
-    go true e later = later
+word_bytes-stop s = ⊎_elim (prefix_len_stops is_word_byte s space) (λ l. rw (get_or-eq_default s space {n = word_bytes s} l)) (lt-or-ge (word_bytes s) (length s))
 
 pub token_bytes-within : (b : ℕ) (bs : List ℕ) → token_bytes (b ∷ bs) ≤ suc (length bs)
 token_bytes-within b bs = go (is_delimiter b)
   where
     go : (alone : Bool) → suc (cond alone 0 (word_bytes bs)) ≤ suc (length bs)
     go true = omega arith
-    go false = omega (arith, word_bytes-within bs)
+    go false = omega (arith, prefix_len-le-length is_word_byte bs)
 
 -- the first token at a byte that counts
 pub first-token : (begun : Bool) (b : ℕ) (bs : List ℕ) → counts_for_nothing begun b ≡ false
@@ -59,7 +33,7 @@ first-token begun b bs n = go (is_delimiter b) refl
   where
     each : is_word_byte b ≡ true → (k : ℕ) → k < suc (word_bytes bs) → is_word_byte (get_or (b ∷ bs) k space) ≡ true
     each w zero h = w
-    each w (suc k) h = word_bytes-each bs k (omega arith)
+    each w (suc k) h = prefix_len_passes is_word_byte bs k space (omega arith)
 
     go : (alone : Bool) → is_delimiter b ≡ alone
         → tokens_after begun (b ∷ bs) ≡ (b ∷ take (cond alone 0 (word_bytes bs)) bs) ∷ tokens_after (not (eqb b line_feed)) (drop (cond alone 0 (word_bytes bs)) bs)
@@ -67,17 +41,3 @@ first-token begun b bs n = go (is_delimiter b) refl
     go false d =
         let word = no-delimiter (eqb b space) (is_bracket b) (eqb b line_feed) (eqb b semicolon) (not begun && eqb b line_feed) n d in
         rw word.1 (word-token begun (b ∷ bs) (word_bytes bs) (each word.0) (word_bytes-stop bs))
-
--- a run of word bytes goes on from a place, ends there, or ends with the text
-module _ (s : List ℕ) (i : ℕ) where
-  pub word-goes-on : i < length s → is_word_byte (get_or s i 0) ≡ true → i + word_bytes (drop i s) ≡ i + 1 + word_bytes (drop (i + 1) s)
-  unfolding word_bytes
-  word-goes-on h w = rw (drop-next s i h, w) (omega arith)
-
-  pub word-stops : i < length s → is_word_byte (get_or s i 0) ≡ false → i + word_bytes (drop i s) ≡ i
-  unfolding word_bytes
-  word-stops h w = rw (drop-next s i h, w, add-zero i)
-
-  pub word-ends : length s ≤ i → i + word_bytes (drop i s) ≡ i
-  unfolding word_bytes
-  word-ends h = rw (drop_of_length-le s h, add-zero i)

@@ -2,31 +2,27 @@
 ghost use Rattle.std.specs.Prelude.{◌≡◌};
 ghost use Rattle.tokens.specs.Tokens.{is_word_byte};
 ghost use Rattle.tokens.specs.TokensAfter.{is_delimiter, counts_for_nothing};
+ghost use Rattle.tokeniser.specs.NextToken.{in_remark};
 
 // Whether the byte is a token by itself.
 pub(crate) fn is_delimiter(b: u8) -> bool
     ensures { result ≡ is_delimiter b }
 {
-    if b == b'(' {
-        return true;
-    }
-    if b == b')' {
-        return true;
-    }
-    b == b'\n'
+    matches!(b, b'(' | b')' | b'\n')
 }
 
 // Whether the byte belongs to a word.
 pub(crate) fn is_word_byte(b: u8) -> bool
     ensures { result ≡ is_word_byte b }
 {
-    if b == b' ' {
-        return false;
-    }
-    if b == b';' {
-        return false;
-    }
-    !is_delimiter(b)
+    !(b == b' ' || b == b';' || is_delimiter(b))
+}
+
+// Whether the byte belongs to a remark, by whether the one before it does: a semicolon begins one, a line feed ends it.
+pub(crate) fn in_remark(before: bool, byte: u8) -> bool
+    ensures { result ≡ in_remark before byte }
+{
+    (before || byte == b';') && byte != b'\n'
 }
 
 // Whether the byte counts for nothing, on a line that has begun with a token, or not: a space, one that begins a remark, the end of a
@@ -34,11 +30,5 @@ pub(crate) fn is_word_byte(b: u8) -> bool
 pub(crate) fn counts_for_nothing(begun: bool, byte: u8) -> bool
     ensures { result ≡ counts_for_nothing begun byte }
 {
-    if byte == b' ' {
-        return true;
-    }
-    if byte == b';' {
-        return true;
-    }
-    if begun { false } else { byte == b'\n' }
+    byte == b' ' || byte == b';' || (!begun && byte == b'\n')
 }

@@ -43,13 +43,10 @@ impl Cursor {
 fn inside(s: &[u8], c: Cursor) -> Cursor
     ensures { result ≡ Places.inside s.now c }
 {
-    if s.len() < c.at {
-        return Cursor {
-            at: s.len(),
-            begun: c.begun,
-        };
+    Cursor {
+        at: c.at.min(s.len()),
+        begun: c.begun,
     }
-    c
 }
 
 // Whether no token is left at the place.
@@ -57,17 +54,14 @@ pub fn ended(s: &[u8], c: Cursor) -> bool
     ensures { result ≡ Tokens.ended (tokens_at s.now c) }
 {
     let here = inside(s, c);
-    let at = here.at;
-    token_start(s, at, here.begun) == s.len()
+    token_start(s, here.at, here.begun) == s.len()
 }
 
 // The next token, which is empty where none is left.
 pub fn next_token(s: &[u8], c: Cursor) -> Token
     ensures { result ≡ next_token s.now c }
 {
-    let here = inside(s, c);
-    let at = here.at;
-    let begun = here.begun;
+    let Cursor { at, begun } = inside(s, c);
     let from = token_start(s, at, begun);
     if from == s.len() {
         return Token {

@@ -1,66 +1,30 @@
 // Where tokens, and bytes that count for nothing, end.
-ghost use Rattle.std.specs.Prelude.{◌+◌, ◌≤◌, ◌<◌, ◌≡◌, false, length, get_or, drop};
-ghost use Rattle.tokens.specs.Lines.{semicolon};
+ghost use Rattle.std.specs.Prelude.{◌+◌, ◌≤◌, ◌<◌, ◌≡◌, false, length, drop};
 ghost use Rattle.tokeniser.specs.NextToken.{blanks};
-ghost use Rattle.tokeniser.specs.internal.Scanned.{RemarkTo, Passed, word_bytes, token_bytes};
+ghost use Rattle.tokeniser.specs.internal.Scanned.{word_bytes, token_bytes};
 
-use crate::bytes::{counts_for_nothing, is_delimiter, is_word_byte};
-
-// The end of the remark that begins at `at`: its line feed, or the end of the text.
-fn remark_end(s: &[u8], at: usize) -> usize
-    requires at_in_bounds { at < length s.now }
-    requires at_value { get_or s.now at 0 ≡ semicolon }
-    ensures { RemarkTo s.now at result }
-{
-    let mut i = at + 1;
-    while i < s.len() {
-        if s[i] == b'\n' {
-            return i;
-        }
-        i += 1;
-    }
-    i
-}
-
-// The place after a byte that counts for nothing, with the remark that it begins.
-fn pass(s: &[u8], at: usize) -> usize
-    requires { at < length s.now }
-    ensures { Passed s.now at result }
-{
-    if s[at] == b';' {
-        return remark_end(s, at);
-    }
-    at + 1
-}
+use crate::bytes::{counts_for_nothing, in_remark, is_delimiter, is_word_byte};
 
 // The first place from `at` on where a token begins, or the end of the text.
 pub(crate) fn token_start(s: &[u8], at: usize, begun: bool) -> usize
     requires { at ≤ length s.now }
     ensures { result ≡ at + blanks begun false (drop at s.now) }
 {
-    let mut i = at;
-    while i < s.len() {
-        if !counts_for_nothing(begun, s[i]) {
+    let mut remark = false;
+    for i in at..s.len() {
+        remark = in_remark(remark, s[i]);
+        if !remark && !counts_for_nothing(begun, s[i]) {
             return i;
         }
-        i = pass(s, i);
     }
-    i
+    s.len()
 }
 
-// The first place from `from` on without a word byte.
-fn word_end(s: &[u8], from: usize) -> usize
-    requires { from ≤ length s.now }
-    ensures { result ≡ from + word_bytes (drop from s.now) }
+// How many bytes of a word stand at the front of a text.
+fn word_bytes(s: &[u8]) -> usize
+    ensures { result ≡ word_bytes s.now }
 {
-    let mut i = from;
-    while i < s.len() {
-        if !is_word_byte(s[i]) {
-            return i;
-        }
-        i += 1;
-    }
-    i
+    s.iter().take_while(|b| is_word_byte(**b)).count()
 }
 
 // The end of the token that begins at `from`.
@@ -71,6 +35,6 @@ pub(crate) fn token_end(s: &[u8], from: usize) -> usize
     if is_delimiter(s[from]) {
         from + 1
     } else {
-        word_end(s, from + 1)
+        from + 1 + word_bytes(&s[from + 1..])
     }
 }

@@ -8,9 +8,9 @@ use Rattle.bundle_reading.specs.Results.{bundle_from}
 use Rattle.bundle_reading.proofs.ItemsInTurn.{behind_set}
 use Rattle.bundle_reading.proofs.rising_items.Given as goal
 
-abbrev pub invariant-loop-above : goal.invariant-loop-above
-invariant-loop-above l = (l.above ≤ l.items) × (l.set < 2 ^ l.above) × Reached l.s l.initial.here l.here
+abbrev pub invariant-loop-number : goal.invariant-loop-number
+invariant-loop-number l = (l.above ≤ l.items) × (l.set < 2 ^ l.above) × Reached l.s l.initial.here l.here
     × (bundle_from l.s l.initial.here (rising_items l.items 0 (tokens_at l.s l.initial.here)) ≡ behind_set l.set l.s l.initial.here (rising_items l.items l.above (tokens_at l.s l.here)))
 
-abbrev pub decreases-loop-above : goal.decreases-loop-above
-decreases-loop-above l = l.items - l.above
+abbrev pub decreases-loop-number : goal.decreases-loop-number
+decreases-loop-number l = l.items - l.above

@@ -1,54 +1,35 @@
--- The loops over the bundles of a cut and over the yard lines, which test nothing, before any is read; and the answers of their functions.
--- Assumes nothing.
-use mathlib.Core.Path.{◌≡◌, refl}
+-- The loops over the bundles of a cut and over the yard lines, which put what is kept of each into its place, before any is read. Assumes
+-- nothing.
+use mathlib.Core.Path.{◌≡◌}
 use mathlib.Core.List.{List}
-use mathlib.Core.Bool.{true}
+use Rattle.std.specs.Prelude.{Option}
 use Prim.Native.Nat.{ℕ, ◌≤◌}
+use native.Mathlib.Omega.{arith}
 use Rattle.lists.specs.Lists.{zeros}
 use Rattle.sheet.specs.Limits.{most_agents}
 use Rattle.sheet.specs.Sets.{set_of}
 use Rattle.tokens.specs.Tokens.{Token}
 use Rattle.tokeniser.specs.declared.Cursor.{Cursor}
 use Rattle.lexing.specs.Forms.{form}
-use Rattle.lexing.proofs.readers.Answers.{Telling}
-use Rattle.lexing.proofs.readers.Stored.{Storing, stored_from, none-stored}
+use Rattle.lexing.proofs.readers.Gathered.{gathered_from, none-gathered, put, padded-gathered}
 use Rattle.division_reading.specs.DivisionForms.{before_cut_pile}
-use Rattle.division_reading.specs.Stated.{StatedLine}
 use Rattle.division_reading.specs.Grammar.{bundle_after, cut_bundles, division_line, division_lines}
-use Rattle.division_reading.specs.Outcome.{kept_line, blank_line, blank_lines}
-use Rattle.division_reading.specs.internal.Results.{unread_cut, read_cut, cut_from, unread_line, read_line, unread_lines, read_lines, lines_from}
+use Rattle.division_reading.specs.Outcome.{cut_sets, kept_line, blank_line, blank_lines, kept_lines}
+use Rattle.division_reading.specs.internal.Results.{cut_from, lines_from}
 use Rattle.division_reading.specs.declared.StatedLine as line
-use Rattle.division_reading.specs.declared.lines.Cut.{Cut}
-use Rattle.division_reading.specs.declared.lines.Lines.{Lines}
 
--- each answer tells whether something is read, and the place behind it
-abbrev pub cut_tells : Telling unread_cut read_cut
-cut_tells = record { is_read = λ r. r.read; next = λ r. r.next; not_read = refl; read_is = λ cut next. refl; is_next = λ cut next. refl }
+module _ (agents items : ℕ) (s : List ℕ) (c : Cursor) where
+  -- the bundles of a cut, by the sets of the first k and the tokens that are left
+  abbrev pub cut_gathered : ℕ → List ℕ → List Token → Option (List ℕ × Cursor)
+  cut_gathered k sets ts = gathered_from (λ number. bundle_after (form before_cut_pile) items) (put set_of) s c agents k sets ts
 
-abbrev pub line_tells : Telling unread_line read_line
-line_tells = record { is_read = λ r. r.read; next = λ r. r.next; not_read = refl; read_is = λ line next. refl; is_next = λ line next. refl }
+  -- the yard lines, by what is kept of the first k and the tokens that are left
+  abbrev pub lines_gathered : ℕ → List line.StatedLine → List Token → Option (List line.StatedLine × Cursor)
+  lines_gathered k lines ts = gathered_from (division_line agents items) (put kept_line) s c agents k lines ts
 
-abbrev pub lines_tell : Telling unread_lines read_lines
-lines_tell = record { is_read = λ r. r.read; next = λ r. r.next; not_read = refl; read_is = λ lines next. refl; is_next = λ lines next. refl }
+  module _ (ts : List Token) (few : agents ≤ most_agents) where
+    pub no-bundle-gathered : cut_from s c (cut_bundles agents items ts) ≡ cut_gathered 0 (zeros most_agents) ts
+    no-bundle-gathered = none-gathered _ _ s c agents cut_sets (zeros most_agents) ts (λ cut e. padded-gathered set_of most_agents 0 cut (omega arith))
 
--- the bundles of a cut
-abbrev pub sets_read : List ℕ → Cursor → Cut
-sets_read sets next = record { read = true; sets = sets; next = next }
-
-abbrev pub cut_stored : ℕ → Storing (List ℕ) ℕ Cut
-cut_stored items =
-    record { reader = λ number. bundle_after (form before_cut_pile) items; stored = set_of; test = λ bundle. true; missed = unread_cut; done = λ passed. sets_read }
-
--- the yard lines
-abbrev pub lines_read : List line.StatedLine → Cursor → Lines
-lines_read lines next = record { read = true; lines = lines; next = next }
-
-abbrev pub lines_stored : ℕ → ℕ → Storing StatedLine line.StatedLine Lines
-lines_stored agents items = record { reader = division_line agents items; stored = kept_line; test = λ line. true; missed = unread_lines; done = λ passed. lines_read }
-
-module _ (s : List ℕ) (c : Cursor) (agents items : ℕ) (ts : List Token) (few : agents ≤ most_agents) where
-  pub no-bundle-stored : cut_from s c (cut_bundles agents items ts) ≡ stored_from (cut_stored items) s c agents 0 (zeros most_agents) true ts
-  no-bundle-stored = none-stored (cut_stored items) s c agents most_agents 0 ts few
-
-  pub no-line-stored : lines_from s c (division_lines agents items ts) ≡ stored_from (lines_stored agents items) s c agents 0 blank_lines true ts
-  no-line-stored = none-stored (lines_stored agents items) s c agents most_agents blank_line ts few
+    pub no-line-gathered : lines_from s c (division_lines agents items ts) ≡ lines_gathered 0 blank_lines ts
+    no-line-gathered = none-gathered _ _ s c agents kept_lines blank_lines ts (λ lines e. padded-gathered kept_line most_agents blank_line lines (omega arith))

@@ -5,9 +5,7 @@ use Rattle.std.specs.Prelude.{Option, None, Some}
 use Rattle.std.proofs.lemmas.Option.{none-some}
 use mathlib.Core.Bool.{Bool, true, false, cond}
 use Prim.Native.Nat.{ℕ}
-use Rattle.numerals.specs.Outcome.{outcome}
 use Rattle.numerals.specs.Numerals.{is_number, digits_after, numeral_value}
-use Rattle.numerals.specs.declared.Numeral.TheVariants.{Value, Missed}
 use Rattle.tokens.specs.Tokens.{Token, ended}
 use Rattle.tokeniser.specs.Places.{tokens_at}
 use Rattle.tokeniser.specs.NextToken.{bytes_of}
@@ -25,17 +23,17 @@ module _ {s : List ℕ} {c : Cursor} {t : token.Token} (most : ℕ) (next : Next
   unfolding number
   number_at = rw (next.is_first, next.then_rest)
 
-  pub number-missed : outcome (numeral_value most (bytes_of s t)) ≡ Missed → number most (tokens_at s c) ≡ None
+  pub number-missed : None ≡ numeral_value most (bytes_of s t) → number most (tokens_at s c) ≡ None
   number-missed missed = rw number_at (go (is_number most (bytes_of s t)) missed)
     where
-      go : (test : Bool) → outcome (cond test (Some (digits_after 0 (bytes_of s t))) None) ≡ Missed → read_if test ≡ None
+      go : (test : Bool) → None ≡ cond test (Some (digits_after 0 (bytes_of s t))) None → read_if test ≡ None
       go false e = refl
       go true e = cc
 
-  pub number_read : (n : ℕ) → outcome (numeral_value most (bytes_of s t)) ≡ Value n → number most (tokens_at s c) ≡ Some (n, tokens_at s t.next)
+  pub number_read : (n : ℕ) → Some n ≡ numeral_value most (bytes_of s t) → number most (tokens_at s c) ≡ Some (n, tokens_at s t.next)
   number_read n read = rw number_at (go (is_number most (bytes_of s t)) read)
     where
-      go : (test : Bool) → outcome (cond test (Some (digits_after 0 (bytes_of s t))) None) ≡ Value n → read_if test ≡ Some (n, tokens_at s t.next)
+      go : (test : Bool) → Some n ≡ cond test (Some (digits_after 0 (bytes_of s t))) None → read_if test ≡ Some (n, tokens_at s t.next)
       go false e = cc
       go true e = cc
 

@@ -2,8 +2,9 @@
 use mathlib.Core.Path.{◌≡◌, refl, sym, ap, ◌∙◌}
 use mathlib.Core.List.{List, IsSuffix}
 use Rattle.std.specs.Prelude.{Option, None, Some}
+use Rattle.std.specs.Bool.{then_some}
+use mathlib.Core.Bool.{Bool, true, false, cond}
 use Prim.Native.Nat.{ℕ}
-use native.Mathlib.Omega.{arith}
 use Rattle.tokens.specs.Tokens.{Token}
 use Rattle.tokeniser.specs.Places.{tokens_at}
 use Rattle.tokeniser.specs.Behind.{place_left}
@@ -11,9 +12,8 @@ use Rattle.tokeniser.specs.declared.Cursor.{Cursor}
 use Rattle.tokeniser.proofs.Behind.{Reached, place-leaves, place_left-then}
 use Rattle.lexing.specs.Forms.{follow}
 use Rattle.lexing.specs.Numbers.{number, number_after, follow_number}
-use Rattle.lexing.specs.Results.{answer_from, followed_from, number_from}
-use Rattle.lexing.specs.declared.forms.Followed as followed
-use Rattle.lexing.specs.declared.forms.Number as number_read
+use Rattle.lexing.specs.Results.{place_after, found_from, number_from}
+use Rattle.lexing.proofs.readers.Tested.{some-injective}
 use Rattle.lexing.proofs.readers.Suffixes.{LeavesEnd, follow-leaves, number-leaves, number_after-leaves, follow_number-leaves}
 
 -- what is read from a place on, a value of the tokens that are left, and the place where they are left
@@ -27,57 +27,80 @@ read-to {s = s} value last e =
     let leaves = place-leaves last in
     record { read = ap (λ us. Some (value us)) (sym (ap (tokens_at s) e ∙ leaves.tokens_left)); reached = rw e leaves.reached }
 
--- a form is missed, or it is followed; a number likewise
 module _ (s : List ℕ) (c : Cursor) where
-  pub followed-missed : (o : Option (List Token)) {r : followed.Followed} → r ≡ followed_from s c o → r ≡ followed.TheVariants.Missed → o ≡ None
-  unfolding followed_from
-  followed-missed None told e = refl
-  followed-missed (Some ts) told e = cc
+  -- a reader misses, or it leaves the tokens at the place that it answers
+  pub place-none : (o : Option (List Token)) → None ≡ place_after s c o → o ≡ None
+  unfolding place_after
+  place-none None told = refl
+  place-none (Some ts) told = cc
 
-  pub followed-to : (o : Option (List Token)) {r : followed.Followed} {c' : Cursor} → LeavesEnd (λ us. us) (tokens_at s c) o → r ≡ followed_from s c o → r ≡ followed.TheVariants.At c'
-      → ReadTo s c o (λ ts. ts) c'
-  unfolding followed_from
-  followed-to None last told e = let z : ◌≡◌ {A = ℕ} 0 1 = cc in absurd (omega arith)
-  followed-to (Some ts) last told e = read-to (λ us. us) last (cc)
+  pub place-to : (o : Option (List Token)) {c' : Cursor} → LeavesEnd (λ us. us) (tokens_at s c) o → Some c' ≡ place_after s c o → ReadTo s c o (λ ts. ts) c'
+  unfolding place_after
+  place-to None last told = absurd (cc)
+  place-to (Some ts) last told = read-to (λ us. us) last (cc)
 
-  pub number-missed : (o : Option (ℕ × List Token)) {r : number_read.Number} → r ≡ number_from s c o → r ≡ number_read.TheVariants.Missed → o ≡ None
-  unfolding answer_from
-  number-missed None told e = refl
-  number-missed (Some r) told e = cc
+  pub none-placed : {o : Option (List Token)} → o ≡ None → None ≡ place_after s c o
+  unfolding place_after
+  none-placed e = rw e
 
-  pub number-to : (o : Option (ℕ × List Token)) {r : number_read.Number} {n : ℕ} {c' : Cursor} → LeavesEnd (λ r. r.1) (tokens_at s c) o → r ≡ number_from s c o
-      → r ≡ number_read.TheVariants.Value n c' → ReadTo s c o (λ ts. (n, ts)) c'
-  unfolding answer_from
-  number-to None last told e = let z : ◌≡◌ {A = ℕ} 0 1 = cc in absurd (omega arith)
-  number-to (Some (k, ts)) {n = n} {c' = c'} last told e =
-      let same : k ≡ n = cc in
-      rw same (read-to (λ us. (n, us)) last (cc))
+  -- the place where a test of what is left passes
+  pub place-tested : (test : Bool) {c' : Cursor} (ts : List Token) → c' ≡ place_left s c ts → then_some test c' ≡ place_after s c (cond test (Some ts) None)
+  unfolding place_after
+  place-tested true ts e = ap Some e
+  place-tested false ts e = refl
 
--- where nothing is read the code's reader misses
-pub followed-none : (s : List ℕ) (c : Cursor) {o : Option (List Token)} → o ≡ None → followed.TheVariants.Missed ≡ followed_from s c o
-unfolding followed_from
-followed-none s c e = rw e
+  -- likewise a reader of something, as it is kept
+  module _ {A B : Type 0} (kept : A → B) where
+    pub found-none : (o : Option (A × List Token)) → None ≡ found_from kept s c o → o ≡ None
+    unfolding found_from
+    found-none None told = refl
+    found-none (Some r) told = cc
+
+    pub none-found : {o : Option (A × List Token)} → o ≡ None → None ≡ found_from kept s c o
+    unfolding found_from
+    none-found e = rw e
+
+    pub record Found (o : Option (A × List Token)) (b : B) (c' : Cursor) : Type 0 where
+      pub value : A
+      pub to : ReadTo s c o (λ ts. (value, ts)) c'
+      pub is_kept : b ≡ kept value
+
+    pub found-to : (o : Option (A × List Token)) {b : B} {c' : Cursor} → LeavesEnd (λ r. r.1) (tokens_at s c) o → Some (b, c') ≡ found_from kept s c o → Found o b c'
+    unfolding found_from
+    found-to None last told = absurd (cc)
+    found-to (Some (a, ts)) {b = b} {c' = c'} last told =
+        let same = some-injective (b, c') (kept a, place_left s c ts) told in
+        record { value = a; to = read-to (λ us. (a, us)) last (ap (λ p. p.1) same); is_kept = ap (λ p. p.0) same }
+
+  -- and a reader of a number
+  pub number-to : (o : Option (ℕ × List Token)) {n : ℕ} {c' : Cursor} → LeavesEnd (λ r. r.1) (tokens_at s c) o → Some (n, c') ≡ number_from s c o
+      → ReadTo s c o (λ ts. (n, ts)) c'
+  number-to o last told = let f = found-to (λ n. n) o last told in rw f.is_kept f.to
 
 -- what is read is the same from a place that was reached before
-pub followed_then : {s : List ℕ} {c c' : Cursor} (o : Option (List Token)) → Reached s c c' → LeavesEnd (λ us. us) (tokens_at s c') o → followed_from s c' o ≡ followed_from s c o
-unfolding followed_from
-followed_then None r last = refl
-followed_then (Some ts) r last = ap followed.TheVariants.At (place_left-then r last)
+pub place-then : {s : List ℕ} {c c' : Cursor} (o : Option (List Token)) → Reached s c c' → LeavesEnd (λ us. us) (tokens_at s c') o → place_after s c' o ≡ place_after s c o
+unfolding place_after
+place-then None r last = refl
+place-then (Some ts) r last = ap Some (place_left-then r last)
+
+pub found-then : {A B : Type 0} (kept : A → B) {s : List ℕ} {c c' : Cursor} (o : Option (A × List Token)) → Reached s c c' → LeavesEnd (λ q. q.1) (tokens_at s c') o
+    → found_from kept s c' o ≡ found_from kept s c o
+unfolding found_from
+found-then kept None r last = refl
+found-then kept (Some (a, ts)) r last = ap (λ place. Some (kept a, place)) (place_left-then r last)
 
 -- what each reader has read, where it has read something
 module _ (s : List ℕ) (c : Cursor) where
-  pub follow-read : (fs : List Token) {r : followed.Followed} {c' : Cursor} → r ≡ followed_from s c (follow fs (tokens_at s c)) → r ≡ followed.TheVariants.At c'
-      → ReadTo s c (follow fs (tokens_at s c)) (λ ts. ts) c'
-  follow-read fs told e = followed-to s c (follow fs (tokens_at s c)) (follow-leaves fs (tokens_at s c)) told e
+  pub follow-read : (fs : List Token) {c' : Cursor} → Some c' ≡ place_after s c (follow fs (tokens_at s c)) → ReadTo s c (follow fs (tokens_at s c)) (λ ts. ts) c'
+  follow-read fs told = place-to s c (follow fs (tokens_at s c)) (follow-leaves fs (tokens_at s c)) told
 
-  pub follow_number-read : (fs : List Token) (most n : ℕ) {r : followed.Followed} {c' : Cursor} → r ≡ followed_from s c (follow_number fs most n (tokens_at s c))
-      → r ≡ followed.TheVariants.At c' → ReadTo s c (follow_number fs most n (tokens_at s c)) (λ ts. ts) c'
-  follow_number-read fs most n told e = followed-to s c (follow_number fs most n (tokens_at s c)) (follow_number-leaves fs most n (tokens_at s c)) told e
+  pub follow_number-read : (fs : List Token) (most n : ℕ) {c' : Cursor} → Some c' ≡ place_after s c (follow_number fs most n (tokens_at s c))
+      → ReadTo s c (follow_number fs most n (tokens_at s c)) (λ ts. ts) c'
+  follow_number-read fs most n told = place-to s c (follow_number fs most n (tokens_at s c)) (follow_number-leaves fs most n (tokens_at s c)) told
 
-  pub number-at-read : (most : ℕ) {r : number_read.Number} {n : ℕ} {c' : Cursor} → r ≡ number_from s c (number most (tokens_at s c))
-      → r ≡ number_read.TheVariants.Value n c' → ReadTo s c (number most (tokens_at s c)) (λ ts. (n, ts)) c'
-  number-at-read most told e = number-to s c (number most (tokens_at s c)) (number-leaves most (tokens_at s c)) told e
+  pub number-at-read : (most : ℕ) {n : ℕ} {c' : Cursor} → Some (n, c') ≡ number_from s c (number most (tokens_at s c)) → ReadTo s c (number most (tokens_at s c)) (λ ts. (n, ts)) c'
+  number-at-read most told = number-to s c (number most (tokens_at s c)) (number-leaves most (tokens_at s c)) told
 
-  pub number_after-read : (fs : List Token) (most : ℕ) {r : number_read.Number} {n : ℕ} {c' : Cursor} → r ≡ number_from s c (number_after fs most (tokens_at s c))
-      → r ≡ number_read.TheVariants.Value n c' → ReadTo s c (number_after fs most (tokens_at s c)) (λ ts. (n, ts)) c'
-  number_after-read fs most told e = number-to s c (number_after fs most (tokens_at s c)) (number_after-leaves fs most (tokens_at s c)) told e
+  pub number_after-read : (fs : List Token) (most : ℕ) {n : ℕ} {c' : Cursor} → Some (n, c') ≡ number_from s c (number_after fs most (tokens_at s c))
+      → ReadTo s c (number_after fs most (tokens_at s c)) (λ ts. (n, ts)) c'
+  number_after-read fs most told = number-to s c (number_after fs most (tokens_at s c)) (number_after-leaves fs most (tokens_at s c)) told

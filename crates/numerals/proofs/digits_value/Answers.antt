@@ -6,21 +6,17 @@ use Rattle.numerals.proofs.Digits.{digit_at, digits_after-drop, below-ten-times,
 use Rattle.numerals.proofs.digits_value.Goals as goal
 
 pub overflow_mul-n : goal.overflow_mul-n
-overflow_mul-n c = omega (arith, few-digits _ _ 18 c.loop-i.invariant.1 (omega arith))
+overflow_mul-n c = omega (arith, few-digits _ _ 18 c.loop-b.invariant.0 (omega arith))
 
 pub overflow_add-n : goal.overflow_add-n
 overflow_add-n c =
-    omega (arith, few-digits _ _ 18 c.loop-i.invariant.1 (omega arith), (digit_at _ _ c.loop-i-test.true c.loop-i.invariant.2).1)
+    omega (arith, few-digits _ _ 18 c.loop-b.invariant.0 (omega arith), (digit_at _ _ c.loop-b-test.true c.loop-b.invariant.1).1)
 
-pub loop-i-preserved : goal.loop-i-preserved
-loop-i-preserved c =
-    let d = digit_at _ _ c.loop-i-test.true c.loop-i.invariant.2 in (
-      omega arith,
-      below-ten-times _ _ _ c.loop-i.invariant.1 d.1,
-      d.2,
-      c.loop-i.invariant.3 ∙ digits_after-drop _ _ c.loop-i-test.true _,
-    )
+pub loop-b-preserved : goal.loop-b-preserved
+loop-b-preserved c =
+    let d = digit_at _ _ c.loop-b-test.true c.loop-b.invariant.1 in
+    rw c.from.ensures (below-ten-times _ _ _ c.loop-b.invariant.0 d.1, d.2, c.loop-b.invariant.2 ∙ digits_after-drop _ _ c.loop-b-test.true _)
 
 pub returns : goal.returns
 unfolding digits_after
-returns c = sym (c.loop-i.invariant.3 ∙ ap (digits_after _) (drop_of_length-le _ c.loop-i-test.false))
+returns c = sym (c.loop-b.invariant.2 ∙ ap (digits_after _) (drop_of_length-le _ c.loop-b-test.false))

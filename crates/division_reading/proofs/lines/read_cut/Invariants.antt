@@ -1,21 +1,14 @@
 -- The loop's invariant: the bundles still due, behind those in their places, are the cut.
 use mathlib.Core.Path.{◌≡◌}
-use mathlib.Core.Bool.{true}
-use Prim.Native.Nat.{◌≤◌, ◌-◌}
 use lib.ListN.{length}
 use Rattle.sheet.specs.Limits.{most_agents}
 use Rattle.tokeniser.specs.Places.{tokens_at}
 use Rattle.tokeniser.proofs.Behind.{Reached}
-use Rattle.lexing.proofs.readers.Stored.{stored_from}
 use Rattle.division_reading.specs.Grammar.{cut_bundles}
 use Rattle.division_reading.specs.internal.Results.{cut_from}
-use Rattle.division_reading.proofs.kept.InTurn.{cut_stored}
+use Rattle.division_reading.proofs.kept.InTurn.{cut_gathered}
 use Rattle.division_reading.proofs.lines.read_cut.Given as goal
 
 abbrev pub invariant-loop-k : goal.invariant-loop-k
-invariant-loop-k l =
-    (l.k ≤ l.agents) × (length l.sets ≡ most_agents) × Reached l.s l.initial.here l.here
-    × (cut_from l.s l.initial.here (cut_bundles l.agents l.items (tokens_at l.s l.initial.here)) ≡ stored_from (cut_stored l.items) l.s l.initial.here l.agents l.k l.sets true (tokens_at l.s l.here))
-
-abbrev pub decreases-loop-k : goal.decreases-loop-k
-decreases-loop-k l = l.agents - l.k
+invariant-loop-k l = (length l.sets ≡ most_agents) × Reached l.s l.initial.here l.here
+    × (cut_from l.s l.initial.here (cut_bundles l.agents l.items (tokens_at l.s l.initial.here)) ≡ cut_gathered l.agents l.items l.s l.initial.here l.k l.sets (tokens_at l.s l.here))

@@ -1,4 +1,5 @@
 use mathlib.Core.Path.{◌≡◌, refl, sym, ap, ◌∙◌}
+use Rattle.std.specs.Prelude.{Some}
 use mathlib.Core.Bool.{false}
 use native.Mathlib.Omega.{arith}
 use Rattle.tokens.specs.Tokens.{tokens}
@@ -8,8 +9,7 @@ use Rattle.tokeniser.specs.Places.{tokens_at}
 use Rattle.tokeniser.proofs.Places.{tokens-start}
 use Rattle.tokeniser.proofs.NextToken.{next-token}
 use Rattle.tokeniser.proofs.Behind.{reached-here, reached-next, reached_then, reached-place}
-use Rattle.lexing.specs.Results.{followed_from}
-use Rattle.lexing.specs.declared.forms.Followed.TheVariants.{At}
+use Rattle.lexing.specs.Results.{place_after}
 use Rattle.lexing.proofs.readers.Follow.{follow-end, follow-missed, follow-passed, follow-left, left-have-bytes}
 use Rattle.lexing.proofs.forms.follow.Goals as goal
 use Rattle.lexing.proofs.forms.follow.Goals.{After-start-there, In-loop-there}
@@ -28,7 +28,7 @@ pub loop-there-init : goal.loop-there-init
 loop-there-init c = (rw (c.start-there.ensures, tokens-start) (tokens-have-bytes _), reached-here, refl)
 
 pub returns-then-not-same_token : goal.returns-then-not-same_token
-unfolding followed_from
+unfolding place_after
 returns-then-not-same_token c =
     rw (begun (goal.at.returns-then-not-same_token c).After-start-there ∙ c.loop-there.invariant.2
     ∙ follow-missed (form-left (goal.at.returns-then-not-same_token c).In-loop-there) (next-token c.next_token-f.ensures) (next-token c.next_token-t.ensures)
@@ -51,10 +51,10 @@ loop-there-preserved c =
     )
 
 pub returns : goal.returns
-unfolding followed_from
+unfolding place_after
 returns c =
     rw (begun (goal.at.returns c).After-start-there ∙ c.loop-there.invariant.2 ∙ follow-end _ _ (sym c.ended.ensures ∙ c.loop-there-test.false))
-    (ap At (reached-place c.loop-there.invariant.1))
+    (ap Some (reached-place c.loop-there.invariant.1))
 
 pub same_token-requires : goal.same_token-requires
 same_token-requires c =

@@ -1,3 +1,0 @@
--- What is kept of marks and of yard lines while they are read.
-pub mod StoredTable
-pub mod InTurn
