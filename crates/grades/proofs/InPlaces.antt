@@ -14,7 +14,7 @@ use Rattle.sheet.specs.Tables.{valuation_of}
 use Rattle.sheet.specs.Contents.{Contents, valuations_of}
 use Rattle.shares.specs.Shares.{shares_of}
 use Rattle.shares.specs.Known.{SharesIn}
-use Rattle.shares.proofs.Outcomes.{nth-shares-known}
+use Rattle.shares.proofs.Answered.{nth-shares-known}
 use Rattle.terms.specs.Allowed.{SmallTerms}
 use Rattle.terms.specs.declared.Terms.{Terms}
 use Rattle.margins.specs.Margins.{margin, margins_of, limited_terms}

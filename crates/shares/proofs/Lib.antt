@@ -4,6 +4,6 @@ pub mod Refusals
 pub mod Allowance
 pub mod Marks
 pub mod EachAgent
-pub mod Outcomes
+pub mod Answered
 pub mod Shown
 pub mod ThreePlayers

@@ -5,7 +5,7 @@ ghost use Rattle.std.specs.Prelude.{◌≡◌, min};
 ghost use Rattle.sheet.specs.Limits.{most_agents};
 ghost use Rattle.terms.specs.Terms.{terms_for};
 
-use sheet::{Sheet, lesser};
+use sheet::Sheet;
 
 // "top" and "bottom" of document 01: the fraction of its maximin share that each agent is promised.
 #[derive(Clone, Copy)]
@@ -18,8 +18,7 @@ pub struct Terms {
 pub fn terms_for(agents: usize) -> Terms
     ensures { result ≡ terms_for (min agents most_agents) }
 {
-    let counted = lesser(agents, Sheet::AGENTS);
-    let before = counted - lesser(counted, 1);
+    let before = agents.min(Sheet::AGENTS).saturating_sub(1);
     let largest_odd = 2 * (before as u64 / 2) + 1;
     Terms {
         top: 2 * largest_odd,

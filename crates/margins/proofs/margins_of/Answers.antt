@@ -15,6 +15,6 @@ pub loop-i-preserved : goal.loop-i-preserved
 loop-i-preserved c =
     let a = c.args in
     let l = c.loop-i in
-    let read : c.margin_of-margin.result ≡ margin_at a.terms a.worths a.shares (l.i + 1) =
-    c.margin_of-margin.ensures ∙ ap₂ (limited_margin a.terms) (sym (nth-next 0 a.worths l.i)) (sym (nth-next 0 a.shares l.i)) in
-    (omega arith, rw (to_z-of_z w64 c.margin_of-margin.result (record { sfits = c.margin_of-margin.type_inv }), l.invariant.1) (padded-range most_agents (pos 0) (margin_at a.terms a.worths a.shares) l.i c.margin_of-margin.result (omega arith) read))
+    let read : c.margin_of.result ≡ margin_at a.terms a.worths a.shares (l.i + 1) =
+    c.margin_of.ensures ∙ ap₂ (limited_margin a.terms) (sym (nth-next 0 a.worths l.i)) (sym (nth-next 0 a.shares l.i)) in
+    rw (to_z-of_z w64 c.margin_of.result (record { sfits = c.margin_of.type_inv }), l.invariant) (padded-range most_agents (pos 0) (margin_at a.terms a.worths a.shares) l.i c.margin_of.result (omega arith) read)

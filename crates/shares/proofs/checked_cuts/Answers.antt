@@ -1,15 +1,15 @@
 use mathlib.Core.Path.{◌≡◌, sym, ap, ◌∙◌}
 use mathlib.Core.Bool.{Bool}
 use mathlib.Core.List.{map}
-use Rattle.sheet.specs.Answers.{accepted, require}
+use Rattle.sheet.specs.Answers.{accepted, require, map_answer}
 use Rattle.sheet.specs.Tables.{profile}
 use Rattle.sheet.specs.Contents.{sheet_of}
 use Rattle.sheet.proofs.Limits.{counts-allowed}
 use Rattle.cut.specs.Outcome.{cutting_of}
 use Rattle.shares.specs.Shares.{sharing}
-use Rattle.shares.specs.Outcome.{outcome}
+use Rattle.shares.specs.Stored.{stored}
 use Rattle.shares.proofs.Refusals.{sharing-counts-within}
-use Rattle.shares.proofs.EachAgent.{outcome-each}
+use Rattle.shares.proofs.EachAgent.{stored-each}
 use Rattle.shares.proofs.checked_cuts.Goals as goal
 use Rattle.shares.proofs.checked_cuts.Goals.{After-shares_covered}
 
@@ -26,17 +26,17 @@ tested c b e =
 pub shares_covered-requires : goal.shares_covered-requires
 shares_covered-requires c =
     let a = c.args in
+    let own = c.own_cuts-own.ensures in
     record {
       counts = c.requires.0;
-      each = ap (λ o. o.shares) (c.own_cuts-own.ensures.0 ∙ outcome-each a.agents a.items a.table);
-      small = c.own_cuts-own.ensures.1;
+      each = ap (λ o. o.shares) (own.each ∙ stored-each a.agents a.items a.table);
+      small = own.bound;
     }
 
-pub returns-then-not-shares_covered : goal.returns-then-not-shares_covered
-returns-then-not-shares_covered c =
-    (c.refuse.ensures.0 ∙ ap outcome (sym (tested (goal.at.returns-then-not-shares_covered c).After-shares_covered _ (c.if-not-shares_covered.true))), c.refuse.ensures.1)
+pub returns-then-not-shares_covered-clause-answer : goal.returns-then-not-shares_covered-clause-answer
+returns-then-not-shares_covered-clause-answer c =
+    ap (map_answer stored) (sym (tested (goal.at.returns-then-not-shares_covered-clause-answer c).After-shares_covered _ c.if-not-shares_covered.true))
 
-pub returns : goal.returns
-returns c =
-    let own = c.own_cuts-own in
-    (own.ensures.0 ∙ ap outcome (sym (tested (goal.at.returns c).After-shares_covered _ (c.if-not-shares_covered.false))), own.ensures.1)
+pub returns-clause-answer : goal.returns-clause-answer
+returns-clause-answer c =
+    ap accepted c.own_cuts-own.ensures.each ∙ ap (map_answer stored) (sym (tested (goal.at.returns-clause-answer c).After-shares_covered _ c.if-not-shares_covered.false))

@@ -11,42 +11,52 @@ use Rattle.shares.specs.declared.OwnCut.{OwnCut}
 use Rattle.shares.proofs.Marks.{marks-small, share_small}
 use Rattle.shares.proofs.EachAgent.{cutting-all}
 use Rattle.shares.proofs.own_cut.Goals as goal
-use Rattle.shares.proofs.own_cut.Goals.{After-cut-outcome}
+use Rattle.shares.proofs.own_cut.Goals.{After-cut-answer, In-Share}
 
 -- the cut is neither refused nor stopped
-told : (c : After-cut-outcome) → let a = c.args in c.cut-outcome.result ≡ cut_outcome (accepted (whole_cut a.bundles (all_values a.items a.valuation)))
+told : (c : After-cut-answer) → let a = c.args in c.cut-answer.result ≡ cut_outcome (accepted (whole_cut a.bundles (all_values a.items a.valuation)))
 told c =
     let a = c.args in
-    c.cut-outcome.ensures
+    c.cut-answer.ensures
     ∙ ap (λ set. cut_outcome (cutting a.valuation set a.bundles a.allowance)) c.all_items.ensures
     ∙ ap cut_outcome (cutting-all a.valuation a.bundles a.items a.allowance c.requires.0 c.requires.1)
 
+-- the answer is the share
+share-told : (c : In-Share) → let a = c.args in c.in-Share.share ≡ maximin_share a.bundles (all_values a.items a.valuation)
+share-told c =
+    let answered = ap (λ o. o.answer) (told c.before.before) in
+    let is = c.in-Share.is in
+    cc
+
 -- the answer that the code makes
 made : ℕ → List ℕ → OwnCut
-made share partition = record { share = share; cut = record { partition = partition } }
+made share partition = record { share = share; partition = partition }
 
-pub returns-in-Share : goal.returns-in-Share
+pub returns-in-Share-clause-own : goal.returns-in-Share-clause-own
 unfolding made
-returns-in-Share c =
-    let e = told (goal.at.returns-in-Share c).After-cut-outcome in
-    let answered = ap (λ o. o.answer) e in
-    let told = c.in-Share.is in
+returns-in-Share-clause-own c =
+    let c' = (goal.at.returns-in-Share-clause-own c).In-Share in
+    ap₂ made (share-told c') (ap (λ o. o.partition) (told c'.before.before))
+
+pub returns-in-Share-clause-bound : goal.returns-in-Share-clause-bound
+returns-in-Share-clause-bound c =
     let a = c.args in
-    let share : c.in-Share.share ≡ maximin_share a.bundles (all_values a.items a.valuation) = cc in (
-      ap₂ made share (ap (λ o. o.partition) e),
-      omega (arith, share, share_small a.bundles a.items a.valuation (omega arith) (omega arith) (marks-small most_items a.valuation _ c.well_formed.0)),
+    omega (
+      arith,
+      share-told (goal.at.returns-in-Share-clause-bound c).In-Share,
+      share_small a.bundles a.items a.valuation (omega arith) (omega arith) (marks-small most_items a.valuation _ c.well_formed.0),
     )
 
 pub returns-in-Stopped : goal.returns-in-Stopped
 returns-in-Stopped c =
-    let answered = ap (λ o. o.answer) (told (goal.at.returns-in-Stopped c).After-cut-outcome) in
-    let stopped = c.in-Stopped.is in
+    let answered = ap (λ o. o.answer) (told (goal.at.returns-in-Stopped c).After-cut-answer) in
+    let is = c.in-Stopped.is in
     let z : ◌≡◌ {A = ℕ} 0 1 = cc in
     absurd (omega arith)
 
 pub returns-in-Refused : goal.returns-in-Refused
 returns-in-Refused c =
-    let answered = ap (λ o. o.answer) (told (goal.at.returns-in-Refused c).After-cut-outcome) in
-    let refused = c.in-Refused.is in
+    let answered = ap (λ o. o.answer) (told (goal.at.returns-in-Refused c).After-cut-answer) in
+    let is = c.in-Refused.is in
     let z : ◌≡◌ {A = ℕ} 0 1 = cc in
     absurd (omega arith)

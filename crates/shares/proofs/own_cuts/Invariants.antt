@@ -1,18 +1,18 @@
 -- The loop's invariant: the shares and the cuts of the first i agents are in their places.
 use mathlib.Core.Path.{◌≡◌}
 use mathlib.Core.List.{map}
-use Prim.Native.Nat.{◌-◌, ◌≤◌}
 use Rattle.lists.specs.Lists.{range, padded}
 use Rattle.sheet.specs.Limits.{most_agents}
 use Rattle.sheet.specs.Contents.{sheet_of}
 use Rattle.sheet.specs.Amounts.{SmallAmounts}
 use Rattle.shares.specs.Shares.{share_of}
-use Rattle.shares.specs.Outcome.{blank_cut}
+use Rattle.shares.specs.Stored.{blank_cut}
 use Rattle.shares.proofs.EachAgent.{cut_at}
 use Rattle.shares.proofs.own_cuts.Given as goal
 
+-- what the loop keeps
 abbrev pub invariant-loop-i : goal.invariant-loop-i
-invariant-loop-i l = (l.i ≤ l.agents) × (l.shares ≡ padded most_agents 0 (map (share_of (sheet_of l.agents l.items l.table)) (range 1 l.i))) × (l.cuts ≡ padded most_agents blank_cut (map (cut_at l.agents l.items l.table) (range 1 l.i))) × SmallAmounts l.shares
-
-abbrev pub decreases-loop-i : goal.decreases-loop-i
-decreases-loop-i l = l.agents - l.i
+invariant-loop-i l =
+    (l.shares ≡ padded most_agents 0 (map (share_of (sheet_of l.agents l.items l.table)) (range 1 l.i)))
+    × (l.cuts ≡ padded most_agents blank_cut (map (cut_at l.agents l.items l.table) (range 1 l.i)))
+    × SmallAmounts l.shares

@@ -3,10 +3,11 @@ use mathlib.Core.Bool.{true}
 use Prim.Native.Nat.{◌≤◌, ◌<◌, min}
 use native.Mathlib.Omega.{arith}
 use Rattle.sheet.specs.Limits.{most_agents, most_items, agents_allowed, items_allowed, CountsWithin}
+use Rattle.sheet.specs.Answers.{map_answer}
 use Rattle.sheet.specs.Contents.{contents}
 use Rattle.sheet.proofs.Limits.{counts-within}
 use Rattle.growth.specs.Growth.{growths}
-use Rattle.shares.specs.Outcome.{outcome}
+use Rattle.shares.specs.Stored.{stored}
 use Rattle.shares.proofs.Refusals.{sharing-agents-outside, sharing-items-outside}
 use Rattle.shares.proofs.Allowance.{sharing_within-refused, sharing_within-enough, sharing_within-short}
 use Rattle.shares.proofs.share_each_within.Goals as goal
@@ -35,28 +36,27 @@ counted c =
 enough : (c : Else-allowance-count) → let a = c.args in growths a.sheet.agents a.sheet.items ≤ a.allowance
 enough c = omega (arith, counted c.before, c.if-allowance-count.false)
 
-pub returns-then-not-agents_allowed : goal.returns-then-not-agents_allowed
-returns-then-not-agents_allowed c =
+pub returns-then-not-agents_allowed-clause-answer : goal.returns-then-not-agents_allowed-clause-answer
+returns-then-not-agents_allowed-clause-answer c =
     let a = c.args in
     let outside = sym c.agents_allowed.ensures ∙ c.if-not-agents_allowed.true in
-    let refused-4 = sharing_within-refused (contents a.sheet a.table) a.allowance 4 (sharing-agents-outside (contents a.sheet a.table) outside) in
-    (c.refuse.ensures.0 ∙ ap outcome (sym refused-4), c.refuse.ensures.1)
+    ap (map_answer stored) (sym (sharing_within-refused (contents a.sheet a.table) a.allowance 4 (sharing-agents-outside (contents a.sheet a.table) outside)))
 
-pub returns-then-not-items_allowed : goal.returns-then-not-items_allowed
-returns-then-not-items_allowed c =
+pub returns-then-not-items_allowed-clause-answer : goal.returns-then-not-items_allowed-clause-answer
+returns-then-not-items_allowed-clause-answer c =
     let a = c.args in
     let outside = sym c.items_allowed.ensures ∙ c.if-not-items_allowed.true in
-    let refused-5 = sharing_within-refused (contents a.sheet a.table) a.allowance 5 (sharing-items-outside (contents a.sheet a.table) (agents_within (goal.at.returns-then-not-items_allowed c).Else-not-agents_allowed) outside) in
-    (c.refuse-then-not-items_allowed.ensures.0 ∙ ap outcome (sym refused-5), c.refuse-then-not-items_allowed.ensures.1)
+    let within = agents_within (goal.at.returns-then-not-items_allowed-clause-answer c).Else-not-agents_allowed in
+    ap (map_answer stored) (sym (sharing_within-refused (contents a.sheet a.table) a.allowance 5 (sharing-items-outside (contents a.sheet a.table) within outside)))
 
-pub returns-then-allowance-count : goal.returns-then-allowance-count
-returns-then-allowance-count c =
+pub returns-then-allowance-count-clause-answer : goal.returns-then-allowance-count-clause-answer
+returns-then-allowance-count-clause-answer c =
     let a = c.args in
-    let short : a.allowance < growths a.sheet.agents a.sheet.items = omega (arith, counted (goal.at.returns-then-allowance-count c).After-count, c.if-allowance-count.true) in
-    let refused-14 = sharing_within-short (contents a.sheet a.table) a.allowance (within-limits (goal.at.returns-then-allowance-count c).Else-not-items_allowed) short in
-    (c.refuse-then-allowance-count.ensures.0 ∙ ap outcome (sym refused-14), c.refuse-then-allowance-count.ensures.1)
+    let at = goal.at.returns-then-allowance-count-clause-answer c in
+    let short : a.allowance < growths a.sheet.agents a.sheet.items = omega (arith, counted at.After-count, c.if-allowance-count.true) in
+    ap (map_answer stored) (sym (sharing_within-short (contents a.sheet a.table) a.allowance (within-limits at.Else-not-items_allowed) short))
 
-pub returns : goal.returns
-returns c =
+pub returns-clause-answer : goal.returns-clause-answer
+returns-clause-answer c =
     let a = c.args in
-    (c.checked_cuts.ensures.0 ∙ ap outcome (sym (sharing_within-enough (contents a.sheet a.table) a.allowance (enough (goal.at.returns c).Else-allowance-count))), c.checked_cuts.ensures.1)
+    c.checked_cuts.ensures.answer ∙ ap (map_answer stored) (sym (sharing_within-enough (contents a.sheet a.table) a.allowance (enough (goal.at.returns-clause-answer c).Else-allowance-count)))

@@ -1,23 +1,23 @@
-use mathlib.Core.Path.{◌≡◌, sym, ap, ◌∙◌}
+use mathlib.Core.Path.{◌≡◌, sym, ap, ap₂, ◌∙◌}
 use mathlib.Core.List.{[]}
-use Prim.Native.Nat.{ℕ, ◌+◌, ◌*◌, min}
+use Prim.Native.Nat.{◌+◌, ◌*◌, ◌≤◌, ◌<◌, min}
 use native.Mathlib.Omega.{arith}
-use lib.ListN.{get_or, set as store}
+use lib.Dec.{leb}
+use lib.ListN.{get_or}
+use borrow.Author.Tests.{le-leb, lt-leb}
 use Rattle.lists.specs.Lists.{range, nth, padded}
 use Rattle.lists.specs.Sums.{total}
 use Rattle.lists.proofs.ranges.Ranges.{in-range}
-use Rattle.lists.proofs.places.Padding.{padded-range}
+use Rattle.lists.proofs.members.Tests.{all-next, all-fails}
 use Rattle.lists.proofs.places.Places.{nth-next, nth-padded-range}
 use Rattle.sheet.specs.Limits.{most_agents, most_items}
 use Rattle.sheet.specs.Sets.{items_of, set_of}
 use Rattle.sheet.specs.Valuations.{value}
 use Rattle.sheet.specs.Contents.{sheet_of}
 use Rattle.sheet.specs.Tables.{all_values}
-use Rattle.sheet.specs.Amounts.{each_at_most}
-use Rattle.sheet.proofs.amounts.Comparing.{each_at_most-all}
 use Rattle.sheet.proofs.sets.Remainders.{value-all}
 use Rattle.shares.specs.Shares.{share_of}
-use Rattle.shares.proofs.EachAgent.{total_of, shares-range, shares_covered-range}
+use Rattle.shares.proofs.EachAgent.{total_of, is_covered, shares-range, shares_covered-range}
 use Rattle.shares.proofs.shares_covered.Goals as goal
 use Rattle.shares.proofs.shares_covered.Goals.{After-value_of, In-loop-i}
 
@@ -48,29 +48,30 @@ total-read c =
     ∙ value-all a.items (omega arith) row
     ∙ ap (λ row. total (all_values a.items row)) (sym (nth-next [] a.table i))
 
+-- what the code compares at agent i + 1
+is_covered-read : (c : After-value_of)
+    → let a = c.args in
+    is_covered a.agents a.items a.table (c.loop-i.i + 1) ≡ leb (a.agents * get_or a.shares c.loop-i.i 0) c.value_of.result
+is_covered-read c = ap₂ leb (ap (λ share. c.args.agents * share) (sym (share-read c.before.before))) (sym (total-read c))
+
+pub returns-then-agents-shares : goal.returns-then-agents-shares
+returns-then-agents-shares c =
+    let a = c.args in
+    let i = c.loop-i.i in
+    let above : c.value_of.result < a.agents * get_or a.shares i 0 = omega arith in
+    let fails = is_covered-read (goal.at.returns-then-agents-shares c).After-value_of ∙ lt-leb (a.agents * get_or a.shares i 0) c.value_of.result above in
+    sym (shares_covered-range a.agents a.items a.table ∙ all-fails (is_covered a.agents a.items a.table) a.agents (i + 1) (omega arith) (omega arith) fails)
+
 pub loop-i-preserved : goal.loop-i-preserved
 loop-i-preserved c =
     let a = c.args in
-    let l = c.loop-i in
-    let share = get_or a.shares l.i 0 in (
-      omega arith,
-      ap (λ multiples. store multiples l.i (a.agents * share)) l.invariant.1
-          ∙ padded-range most_agents 0 (λ k. a.agents * share_of (sheet_of a.agents a.items a.table) k) l.i (a.agents * share) (omega arith) (ap (λ v. a.agents * v) (share-read (goal.at.loop-i-preserved c).In-loop-i)),
-      ap (λ totals. store totals l.i c.value_of.result) l.invariant.2
-          ∙ padded-range most_agents 0 (total_of a.agents a.items a.table) l.i c.value_of.result (omega arith) (total-read c),
-    )
+    let i = c.loop-i.i in
+    let fits : a.agents * get_or a.shares i 0 ≤ c.value_of.result = omega arith in
+    let holds = is_covered-read (goal.at.loop-i-preserved c).After-value_of ∙ le-leb (a.agents * get_or a.shares i 0) c.value_of.result fits in
+    all-next (is_covered a.agents a.items a.table) i c.loop-i.invariant holds
 
 pub returns : goal.returns
 returns c =
     let a = c.args in
-    let l = c.loop-i in
-    let e : l.i ≡ a.agents = omega arith in
-    let few : min a.agents most_agents ≡ a.agents = omega arith in
-    let multiple : ℕ → ℕ = λ k. a.agents * share_of (sheet_of a.agents a.items a.table) k in
-    let sum : ℕ → ℕ = total_of a.agents a.items a.table in
-    c.each_at_most.ensures
-    ∙ ap (each_at_most l.multiples l.totals) few
-    ∙ each_at_most-all l.multiples l.totals multiple sum a.agents
-    (λ i m. rw (l.invariant.1, e) (nth-padded-range most_agents 0 0 multiple a.agents m))
-    (λ i m. rw (l.invariant.2, e) (nth-padded-range most_agents 0 0 sum a.agents m))
-    ∙ sym (shares_covered-range a.agents a.items a.table)
+    let e : c.loop-i.i ≡ a.agents = omega arith in
+    sym (shares_covered-range a.agents a.items a.table ∙ (rw e at c.loop-i.invariant))
