@@ -13,7 +13,7 @@ use Rattle.sheet.specs.Sets.{items_of, set_of}
 use Rattle.tokens.specs.Tokens.{Token}
 use Rattle.division_reading.specs.Stated.{StatedLine, Stated}
 use Rattle.division_reading.specs.Grammar.{division_text, reading_division}
-use Rattle.division_reading.specs.Outcome.{kept_line, blank_line, kept}
+use Rattle.division_reading.specs.Outcome.{kept_line, blank_line, kept_lines, kept}
 use Rattle.division_reading.specs.Shape.{WellFormed}
 use Rattle.division_reading.proofs.Bundles.{items-of-bundle, items-of-bundles}
 use Rattle.division_reading.proofs.Shape.{division-shape}
@@ -40,7 +40,7 @@ module _ (n m : ℕ) (few_items : m ≤ most_items) where
 
     kept_back : stated_in n (kept (Some d)) ≡ Some d
     kept_back =
-        let lines : map (stated_line n) (take n (kept (Some d)).lines) ≡ d.lines =
+        let lines : map (stated_line n) (take n (kept_lines d.lines)) ≡ d.lines =
         ap (map (stated_line n)) (take-of-padded most_agents n blank_line (map kept_line d.lines) (length-map d.lines kept_line ∙ shape.line_each))
         ∙ lines-back n d.lines line-back in
         ap (λ ls. Some (record { grade = d.grade; lines = ls })) lines
