@@ -55,19 +55,21 @@ returns-then-allowance-eq0 c =
     let a = c.args in
     rw (bundles-within (goal.at.returns-then-allowance-eq0 c).Else-not-is_within, names-only-below a.set most_items (omega arith) (omega arith), lt-leb 1 a.allowance (omega arith)) refl
 
-pub cut_values-requires : goal.cut_values-requires
-cut_values-requires c =
+pub invariant_of-request : goal.invariant_of-request
+invariant_of-request c =
     record {
-      few = omega (arith, ap length (in_use (goal.at.cut_values-requires c).After-values_of-chosen), count-chosen (goal.at.cut_values-requires c).After-values_of-chosen);
-      small = omega (arith, c.values_of-chosen.ensures.1, ap total (in_use (goal.at.cut_values-requires c).After-values_of-chosen));
-      some_bundles = (bounds (goal.at.cut_values-requires c).After-values_of-chosen).0;
-      few_bundles = (bounds (goal.at.cut_values-requires c).After-values_of-chosen).1;
-      some_allowance = omega arith;
+      allowed = record {
+        few = omega (arith, ap length (in_use (goal.at.invariant_of-request c).After-values_of-chosen), count-chosen (goal.at.invariant_of-request c).After-values_of-chosen);
+        small = omega (arith, c.values_of-chosen.ensures.1, ap total (in_use (goal.at.invariant_of-request c).After-values_of-chosen));
+        some_bundles = (bounds (goal.at.invariant_of-request c).After-values_of-chosen).0;
+        few_bundles = (bounds (goal.at.invariant_of-request c).After-values_of-chosen).1;
+        some_allowance = omega arith;
+      };
     }
 
 pub returns : goal.returns
 returns c =
     let a = c.args in
-    ap accepted c.cut_values.ensures
+    ap accepted c.cut.ensures
     ∙ ap (λ values. accepted (stored (found a.bundles values a.allowance))) (in_use (goal.at.returns c).After-values_of-chosen)
     ∙ ap (map_answer stored) (sym (cutting-within a.valuation a.set a.bundles a.allowance (bounds (goal.at.returns c).After-values_of-chosen).0 (bounds (goal.at.returns c).After-values_of-chosen).1 (omega arith) (omega arith)))
