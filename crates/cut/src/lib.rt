@@ -32,9 +32,6 @@ pub enum Figure {
     Stopped(u64),
 }
 
-// A number for each item.
-type Values = [u64; Sheet::ITEMS];
-
 // What a cut finds: the figure, the partition that reaches it, and the number of growth partitions looked at.
 #[derive(Clone, Copy)]
 pub struct Cutting {
