@@ -60,10 +60,10 @@ impl Walk<'_> {
         if search.allowance == 0 {
             return search;
         }
-        if values.is_empty() {
+        let Some((value, rest)) = values.split_first() else {
             let low = least(&laid.loads, self.bundles);
             return search.look(low, self.ceiling, laid.partition);
-        }
+        };
         let most = self.greatest[laid.at];
         if is_out_of_reach(
             values,
@@ -75,8 +75,6 @@ impl Walk<'_> {
         ) {
             return search.pass(self.counts, values.len(), laid.used);
         }
-        let value = values[0];
-        let rest = &values[1..];
         let mut next = *laid;
         next.at = laid.at + 1;
         let mut found = search;
@@ -86,7 +84,7 @@ impl Walk<'_> {
             if found.is_wasted(load, bundle, laid.used) {
                 found = found.pass(self.counts, rest.len(), next.used);
             } else {
-                next.loads[bundle] = load + value;
+                next.loads[bundle] = load + *value;
                 next.partition[laid.at] = bundle as u8 + 1;
                 found = self.search(rest, &next, found);
                 next.loads[bundle] = load;
