@@ -32,48 +32,12 @@ pub enum Figure {
     Stopped(u64),
 }
 
-// A number for each item.
-type Values = [u64; Sheet::ITEMS];
-
 // What a cut finds: the figure, the partition that reaches it, and the number of growth partitions looked at.
 #[derive(Clone, Copy)]
 pub struct Cutting {
     pub figure: Figure,
     pub partition: Partition,
     pub count: u32,
-}
-
-// The cut that its allowance stops: one walk over the growth partitions in dictionary order, as far as the allowance goes.
-fn cut_stopped(values: &[u64], bundles: usize, allowance: u32) -> Cutting
-    requires { Allowed values.now bundles allowance × (allowance < growths bundles (length values.now)) }
-    ensures { result ≡ stored (stopped_cut bundles values.now allowance) }
-{
-    let end = find(values, bundles, mean(values, bundles), 0, allowance);
-    let partition = end.best.partition;
-    Cutting {
-        figure: Figure::Stopped(end.best.goal - 1),
-        partition,
-        count: allowance - end.allowance,
-    }
-}
-
-// The cut where the allowance is enough: the share first, over the values in falling order, and then a walk for the first partition that
-// reaches it, which ends there.
-fn cut_by_share(values: &[u64], bundles: usize, allowance: u32) -> Cutting
-    requires { Allowed values.now bundles allowance × (growths bundles (length values.now) ≤ allowance) }
-    ensures { result ≡ stored (whole_cut bundles values.now) }
-{
-    let sorted = falling(values);
-    let ordered = &sorted[..values.len()];
-    let ceiling = mean(values, bundles);
-    let goal = deal(ordered, bundles) + 1;
-    let end = find_after(ordered, values, bundles, ceiling, goal, allowance);
-    let partition = end.best.partition;
-    Cutting {
-        figure: Figure::Share(end.best.goal - 1),
-        partition,
-        count: allowance - end.allowance,
-    }
 }
 
 // All of so many items in bundle 1.
@@ -86,38 +50,85 @@ fn all_in_first(count: usize) -> Partition
     partition
 }
 
-// The cut in one bundle, of which there is one partition.
-fn cut_in_one(values: &[u64]) -> Cutting
-    requires { (length values.now ≤ most_items) × (total values.now ≤ greatest_sum) }
-    ensures { result ≡ stored (whole_cut 1 values.now) }
-{
-    Cutting {
-        figure: Figure::Share(mean(values, 1)),
-        partition: all_in_first(values.len()),
-        count: 1,
-    }
+// Values, a number of bundles and an allowance that are not refused.
+#[derive(Clone, Copy)]
+struct Request<'a> {
+    values: &'a [u64],
+    bundles: usize,
+    allowance: u32,
+    ghost allowed: { Allowed values.now bundles allowance },
 }
 
-// Whether the allowance is enough for all growth partitions. The most that a cut has are enough without a count.
-fn is_enough(allowance: u32, items: usize, bundles: usize) -> bool
-    requires { (1 ≤ bundles) × (bundles ≤ most_agents) × (items ≤ most_items) }
-    ensures { result ≡ leb (growths bundles items) allowance }
-{
-    MOST <= allowance || count(items, bundles) <= allowance
-}
+impl Request<'_> {
+    // The cut that its allowance stops: one walk over the growth partitions in dictionary order, as far as the allowance goes.
+    fn cut_stopped(&self) -> Cutting
+        requires { self.now.allowance < growths self.now.bundles (length self.now.values.now) }
+        ensures { result ≡ stored (stopped_cut self.now.bundles self.now.values.now self.now.allowance) }
+    {
+        let ceiling = mean(self.values, self.bundles);
+        let end = find(self.values, self.bundles, ceiling, 0, self.allowance);
+        let partition = end.best.partition;
+        Cutting {
+            figure: Figure::Stopped(end.best.goal - 1),
+            partition,
+            count: self.allowance - end.allowance,
+        }
+    }
 
-// The cut of the values in `bundles` bundles, as far as the allowance goes.
-fn cut_values(values: &[u64], bundles: usize, allowance: u32) -> Cutting
-    requires { Allowed values.now bundles allowance }
-    ensures { result ≡ stored (found bundles values.now allowance) }
-{
-    if bundles == 1 {
-        return cut_in_one(values);
+    // The cut where the allowance is enough: the share first, over the values in falling order, and then a walk for the first partition that
+    // reaches it, which ends there.
+    fn cut_by_share(&self) -> Cutting
+        requires { growths self.now.bundles (length self.now.values.now) ≤ self.now.allowance }
+        ensures { result ≡ stored (whole_cut self.now.bundles self.now.values.now) }
+    {
+        let Request {
+            values,
+            bundles,
+            allowance,
+        } = *self;
+        let sorted = falling(values);
+        let ordered = &sorted[..values.len()];
+        let ceiling = mean(values, bundles);
+        let goal = deal(ordered, bundles) + 1;
+        let end = find_after(ordered, values, bundles, ceiling, goal, allowance);
+        let partition = end.best.partition;
+        Cutting {
+            figure: Figure::Share(end.best.goal - 1),
+            partition,
+            count: allowance - end.allowance,
+        }
     }
-    if is_enough(allowance, values.len(), bundles) {
-        return cut_by_share(values, bundles, allowance);
+
+    // The cut in one bundle, of which there is one partition.
+    fn cut_in_one(&self) -> Cutting
+        ensures { result ≡ stored (whole_cut 1 self.now.values.now) }
+    {
+        Cutting {
+            figure: Figure::Share(mean(self.values, 1)),
+            partition: all_in_first(self.values.len()),
+            count: 1,
+        }
     }
-    cut_stopped(values, bundles, allowance)
+
+    // Whether the allowance is enough for all growth partitions. The most that a cut has are enough without a count.
+    fn is_enough(&self) -> bool
+        ensures { result ≡ leb (growths self.now.bundles (length self.now.values.now)) self.now.allowance }
+    {
+        MOST <= self.allowance || count(self.values.len(), self.bundles) <= self.allowance
+    }
+
+    // The cut as far as the allowance goes.
+    fn cut(&self) -> Cutting
+        ensures { result ≡ stored (found self.now.bundles self.now.values.now self.now.allowance) }
+    {
+        if self.bundles == 1 {
+            return self.cut_in_one();
+        }
+        if self.is_enough() {
+            return self.cut_by_share();
+        }
+        self.cut_stopped()
+    }
 }
 
 // The share of the items of `set` in `bundles` bundles, by the values of `valuation`, and the first partition in dictionary order
@@ -137,5 +148,10 @@ pub fn cut(valuation: Row, set: u16, bundles: usize, allowance: u32) -> Result<C
         return Err(Refusal::AllowanceTooSmall);
     }
     let chosen = values_of(valuation, set);
-    Ok(cut_values(chosen.as_slice(), bundles, allowance))
+    let request = Request {
+        values: chosen.as_slice(),
+        bundles,
+        allowance,
+    };
+    Ok(request.cut())
 }

@@ -42,13 +42,10 @@ fn is_short(values: &[u64], loads: &Loads, bundles: usize, goal: u64) -> bool
     requires { bundles ≤ most_agents }
     ensures { result ≡ is_short goal (load_of loads.now) bundles values.now }
 {
-    for load in &loads[..bundles] {
+    loads[..bundles].iter().any(|load| {
         let most = goal.saturating_sub(*load);
-        if lacks_more(loads, bundles, goal, most, supplied(values, most)) {
-            return true;
-        }
-    }
-    false
+        lacks_more(loads, bundles, goal, most, supplied(values, most))
+    })
 }
 
 // Whether the first `bundles` loads need more than `count` values, none greater than `most`, to reach the goal.

@@ -3,9 +3,8 @@
 
 ghost use Rattle.std.specs.Prelude.{◌≡◌, ◌-◌, ◌≤◌, min, length};
 ghost use Rattle.sheet.specs.Limits.{most_agents, most_items};
-ghost use Rattle.lists.specs.Lists.{zeros};
 ghost use Rattle.reach.specs.Pruning.{GreatestFrom};
-ghost use Rattle.walking.specs.Walk.{Walkable, Counted, start, walked, walked_from, searchable, finding, finding_after};
+ghost use Rattle.walking.specs.Walk.{Walkable, Counted, start, walked, searchable, finding, finding_after};
 
 use growth::{Counts, counts_for};
 use reach::loads::{Loads, least};
@@ -14,7 +13,7 @@ use sheet::{Sheet, is_within};
 use walk_steps::{Best, Partition, Search, open_bundles};
 
 // A number for each item.
-type Values = [u64; Sheet::ITEMS];
+pub type Values = [u64; Sheet::ITEMS];
 
 // What stays the same on a walk: the number of growth partitions of each branch, the number of bundles, the greatest of the values from each
 // item on, and the ceiling up to which a least bundle counts.
@@ -61,10 +60,10 @@ impl Walk<'_> {
         if search.allowance == 0 {
             return search;
         }
-        if values.is_empty() {
+        let Some((value, rest)) = values.split_first() else {
             let low = least(&laid.loads, self.bundles);
             return search.look(low, self.ceiling, laid.partition);
-        }
+        };
         let most = self.greatest[laid.at];
         if is_out_of_reach(
             values,
@@ -76,8 +75,6 @@ impl Walk<'_> {
         ) {
             return search.pass(self.counts, values.len(), laid.used);
         }
-        let value = values[0];
-        let rest = &values[1..];
         let mut next = *laid;
         next.at = laid.at + 1;
         let mut found = search;
@@ -87,7 +84,7 @@ impl Walk<'_> {
             if found.is_wasted(load, bundle, laid.used) {
                 found = found.pass(self.counts, rest.len(), next.used);
             } else {
-                next.loads[bundle] = load + value;
+                next.loads[bundle] = load + *value;
                 next.partition[laid.at] = bundle as u8 + 1;
                 found = self.search(rest, &next, found);
                 next.loads[bundle] = load;
@@ -117,34 +114,7 @@ fn is_searchable(values: &[u64], bundles: usize) -> bool
         && supplied(values, Sheet::GREATEST_SUM + 1) <= Sheet::GREATEST_SUM
 }
 
-// The search from empty bundles, for a partition whose least bundle reaches the goal.
-fn walk_from(
-    values: &[u64],
-    counts: &Counts,
-    bundles: usize,
-    ceiling: u64,
-    goal: u64,
-    allowance: u32,
-) -> Search
-    requires { Walkable values.now bundles 0 0 (zeros most_agents) × Counted bundles (length values.now) counts.now }
-    ensures { result ≡ walked_from values.now bundles ceiling goal allowance }
-{
-    let walk = Walk {
-        counts,
-        bundles,
-        greatest: greatest_from_each(values),
-        ceiling,
-    };
-    let laid = Laid {
-        at: 0,
-        used: 0,
-        loads: [0; Sheet::AGENTS],
-        partition: [0; Sheet::ITEMS],
-    };
-    walk.search(values, &laid, nothing(goal, allowance))
-}
-
-// The search of the values, by a table of counts for at least as many items.
+// The search of the values from empty bundles, by a table of counts for at least as many items.
 fn find_by(
     values: &[u64],
     counts: &Counts,
@@ -156,10 +126,23 @@ fn find_by(
     requires { Counted (min bundles most_agents) (min (length values.now) most_items) counts.now }
     ensures { result ≡ finding values.now bundles ceiling goal allowance }
 {
+    let search = nothing(goal, allowance);
     if !is_searchable(values, bundles) {
-        return nothing(goal, allowance);
+        return search;
     }
-    walk_from(values, counts, bundles, ceiling, goal, allowance)
+    let walk = Walk {
+        counts,
+        bundles,
+        greatest: greatest_from_each(values),
+        ceiling,
+    };
+    let none = Laid {
+        at: 0,
+        used: 0,
+        loads: [0; Sheet::AGENTS],
+        partition: [0; Sheet::ITEMS],
+    };
+    walk.search(values, &none, search)
 }
 
 // The search for a partition of the values whose least bundle, counted up to the ceiling, reaches the goal: the first best of the growth

@@ -49,22 +49,24 @@ returns-then-allowance-eq0 c =
     let a = c.args in
     rw (bundles-within (goal.at.returns-then-allowance-eq0 c).Else-not-is_within, names-only-below a.set most_items (omega arith) (omega arith), lt-leb 1 a.allowance (omega arith)) refl
 
-pub cut_values-requires : goal.cut_values-requires
-cut_values-requires c =
-    let told = chosen-is (goal.at.cut_values-requires c).After-as_slice in
-    let b = bounds (goal.at.cut_values-requires c).Else-not-is_within in
+pub invariant_of-request : goal.invariant_of-request
+invariant_of-request c =
+    let told = chosen-is (goal.at.invariant_of-request c).After-as_slice in
+    let b = bounds (goal.at.invariant_of-request c).Else-not-is_within in
     record {
-      few = omega (arith, ap length told, count-chosen (goal.at.cut_values-requires c).After-as_slice);
-      small = omega (arith, c.values_of-chosen.ensures.bound, ap total told);
-      some_bundles = b.0;
-      few_bundles = b.1;
-      some_allowance = omega arith;
+      allowed = record {
+        few = omega (arith, ap length told, count-chosen (goal.at.invariant_of-request c).After-as_slice);
+        small = omega (arith, c.values_of-chosen.ensures.bound, ap total told);
+        some_bundles = b.0;
+        few_bundles = b.1;
+        some_allowance = omega arith;
+      };
     }
 
 pub returns : goal.returns
 returns c =
     let a = c.args in
     let b = bounds (goal.at.returns c).Else-not-is_within in
-    ap accepted c.cut_values.ensures
+    ap accepted c.cut.ensures
     ∙ ap (λ values. accepted (stored (found a.bundles values a.allowance))) (chosen-is (goal.at.returns c).After-as_slice)
     ∙ ap (map_answer stored) (sym (cutting-within a.valuation a.set a.bundles a.allowance b.0 b.1 (omega arith) (omega arith)))

@@ -13,8 +13,7 @@ use Rattle.lists.specs.Lists.{range}
 use Rattle.lists.specs.Sums.{total}
 use Rattle.sheet.specs.Limits.{most_items, greatest_sum}
 use Rattle.lists.proofs.Cases.{lt-or-ge}
-use Rattle.lists.proofs.ranges.Ranges.{in-range}
-use Rattle.lists.proofs.members.Counting.{mem-any, any_none}
+use Rattle.lists.proofs.members.Counting.{any_none}
 use Rattle.reach.specs.Loads.{least_loaded}
 use Rattle.reach.specs.Pruning.{supply, counted_supply, demand, is_short_at, is_short}
 use Rattle.reach.proofs.pruning.Reached.{lacks-le-values}
@@ -52,8 +51,3 @@ module _ (goal : ℕ) (load : ℕ → ℕ) (n : ℕ) where
       (λ lt. lt)
       (λ reached. absurd (true≢false (sym short ∙ any_none (is_short_at goal load n values) (range 1 n) (λ c m. le-ltb (counted_supply (goal - load c) values) (demand goal load n (goal - load c)) (omega (arith, demand-le-supply (goal - load c) values l reached, supply-counted (goal - load c) values few small))))))
       (lt-or-ge (least_loaded n load values l) goal)
-
-  module _ (values : List ℕ) where
-    -- one bundle at which the test fails is enough
-    pub is_short-at : (c : ℕ) → 1 ≤ c → c ≤ n → is_short_at goal load n values c ≡ true → is_short goal load n values ≡ true
-    is_short-at c lo hi short = mem-any (is_short_at goal load n values) (in-range 1 n c lo (omega arith)) short

@@ -1,33 +1,42 @@
-use mathlib.Core.Path.{◌≡◌, sym, ap, ◌∙◌}
-use Prim.Native.Nat.{◌+◌, ◌-◌, ◌<◌}
+use mathlib.Core.Path.{◌≡◌, refl, sym, ap, ◌∙◌}
+use mathlib.Core.Bool.{Bool, ◌||◌}
+use mathlib.Core.List.{List, [], ◌∷◌}
+use Prim.Native.Nat.{ℕ, ◌-◌, ◌≤◌}
 use native.Mathlib.Omega.{arith}
-use lib.ListN.{length-take}
+use lib.Dec.{ltb}
+use lib.ListN.{length, take, length-take}
 use lib.Seq.{get_or-take}
-use Rattle.lists.proofs.members.Tests.{none-next}
-use Rattle.lists.proofs.places.Places.{nth-next}
+use Rattle.std.proofs.Common.{rules, tests}
+use Rattle.std.specs.List.{list_any}
+use Rattle.std.proofs.lemmas.Iterator.{YieldsList-from_slice}
+use Rattle.std.proofs.lemmas.Iterator.Search.{any_from_yields_List}
+use Rattle.lists.specs.Lists.{range, any, nth}
+use Rattle.lists.proofs.members.Congruence.{any-cong}
+use Rattle.lists.proofs.members.Tests.{any-map}
+use Rattle.lists.proofs.ranges.Ranges.{range-bounds, map-nth-range}
 use Rattle.reach.specs.Loads.{load_of}
-use Rattle.reach.specs.Pruning.{is_short_at}
-use Rattle.reach.proofs.pruning.Threshold.{is_short-at}
+use Rattle.reach.specs.Pruning.{counted_supply, demand}
 use Rattle.reach.proofs.pruning.is_short.Goals as goal
-use Rattle.reach.proofs.pruning.is_short.Goals.{After-lacks_more}
 
--- the test at the next bundle
-tested : (c : After-lacks_more) → c.lacks_more.result ≡ is_short_at c.args.goal (load_of c.args.loads.now) c.args.bundles c.args.values.now (c.loop-load.load-index + 1)
-tested c =
-    let a = c.args in
-    let i = c.loop-load.load-index in
-    let inside : i < a.bundles = omega (arith, length-take a.bundles a.loads.now, c.loop-load-test.true) in
-    let lack : c.saturating_sub-most.result ≡ a.goal - load_of a.loads.now (i + 1) =
-    c.saturating_sub-most.ensures ∙ ap (λ load. a.goal - load) (get_or-take a.bundles a.loads.now i 0 inside ∙ sym (nth-next 0 a.loads.now i)) in
-    rw lack at (rw c.supplied.ensures at c.lacks_more.ensures)
+-- the library's word for the test of a list
+list_any-is : {A : Type 0} (p : A → Bool) (xs : List A) → list_any p xs ≡ any p xs
+list_any-is p [] = refl
+list_any-is p (x ∷ xs) = ap (λ b. p x || b) (list_any-is p xs)
 
-pub returns-then-lacks_more : goal.returns-then-lacks_more
-returns-then-lacks_more c =
-    let a = c.args in
-    let i = c.loop-load.load-index in
-    sym (is_short-at a.goal (load_of a.loads.now) a.bundles a.values.now (i + 1) (omega arith) (omega (arith, length-take a.bundles a.loads.now, c.loop-load-test.true)) (sym (tested (goal.at.returns-then-lacks_more c).After-lacks_more) ∙ c.if-lacks_more.true))
+-- the test of the first n members is the test of the places 1 .. n
+list_any-front : (p : ℕ → Bool) (xs : List ℕ) (n : ℕ) → n ≤ length xs → list_any p (take n xs) ≡ any (λ c. p (nth 0 xs c)) (range 1 n)
+list_any-front p xs n inside =
+    let whole : length (take n xs) ≡ n = omega (arith, length-take n xs) in
+    list_any-is p (take n xs)
+    ∙ ap (any p) (sym (map-nth-range 0 (take n xs) n whole))
+    ∙ any-map p (nth 0 (take n xs)) (range 1 n)
+    ∙ any-cong (λ c. p (nth 0 (take n xs) c)) (λ c. p (nth 0 xs c)) (range 1 n)
+    (λ c m. let b = range-bounds 1 n m in ap p (get_or-take n xs (c - 1) 0 (omega (arith, b))))
 
-pub loop-load-preserved : goal.loop-load-preserved
-loop-load-preserved c =
+pub returns : goal.returns
+returns c =
     let a = c.args in
-    none-next (is_short_at a.goal (load_of a.loads.now) a.bundles a.values.now) c.loop-load.load-index c.loop-load.invariant (sym (tested (goal.at.loop-load-preserved c).After-lacks_more) ∙ c.if-lacks_more.false)
+    let test : ℕ → Bool = λ load. ltb (counted_supply (a.goal - load) a.values.now) (demand a.goal (load_of a.loads.now) a.bundles (a.goal - load)) in
+    let by_call : c.any.result ≡ list_any test (take a.bundles a.loads.now) =
+    any_from_yields_List test _ _ _ c.any.ensures.ran (YieldsList-from_slice (take a.bundles a.loads.now) cc) (λ x b q k. search (rules, tests)) in
+    by_call ∙ list_any-front test a.loads.now a.bundles (omega (arith, c.requires))

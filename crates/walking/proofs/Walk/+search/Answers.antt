@@ -1,16 +1,13 @@
 use mathlib.Core.Path.{◌≡◌, sym, ap, ap₂, subst, ◌∙◌}
-use mathlib.Core.Bool.{false}
 use mathlib.Core.List.{List, [], ◌∷◌}
-use Prim.Native.Nat.{ℕ, ◌+◌, ◌-◌, ◌≤◌, min, max}
+use Prim.Native.Nat.{ℕ, ◌+◌, ◌≤◌, min, max}
 use native.Mathlib.Nat.{add-zero}
 use native.Mathlib.Omega.{arith}
-use lib.ListN.{length, get_or, take, drop, set}
+use lib.ListN.{length, get_or, set}
 use lib.Seq.{set-set}
-use lib.Dec.{eqb}
-use Rattle.std.proofs.lemmas.Bool.{eqb-false, eqb-true}
 use Rattle.lists.proofs.places.Places.{nth-next}
 use Rattle.lists.proofs.places.Stores.{store-back}
-use Rattle.lists.proofs.places.Passing.{empty, first-and-rest}
+use Rattle.lists.proofs.places.Passing.{empty}
 use Rattle.lists.proofs.sums.LeastOf.{least_of-le}
 use Rattle.growth.specs.Growth.{growth_from}
 use Rattle.lists.specs.Sums.{least_of}
@@ -28,16 +25,6 @@ use Rattle.walking.proofs.Wasted.{walked_up_to-wasted}
 use Rattle.walking.proofs.Walk.+search.Goals as goal
 use Rattle.walking.proofs.Walk.+search.Goals.{then-is_wasted, else-is_wasted}
 
--- of the values still to be laid, the next, and those after it
-abbrev next : List ℕ → ℕ
-next values = get_or values 0 0
-
-abbrev later : List ℕ → List ℕ
-later values = take (length values - 1) (drop 1 values)
-
-values-are : (values : List ℕ) → eqb (length values) 0 ≡ false → values ≡ next values ∷ later values
-values-are values some = first-and-rest values (omega (arith, eqb-false (length values) 0 some))
-
 -- the place of the table that is read holds the number of the growth partitions
 counted : (counts : List (List ℕ)) (bundles most left used : ℕ) → Counted bundles most counts → most ≤ most_items → bundles ≤ most_agents → left ≤ most → used ≤ bundles
     → count_at counts (min left most_items) (min used most_agents) ≡ length (growth_from bundles used left)
@@ -51,11 +38,11 @@ returns-then-search-eq0 t c =
     let a = c.args in
     sym (walked-spent a.self.now.bundles a.laid.now.at a.laid.now.used a.laid.now.loads a.laid.now.partition a.self.now.ceiling a.search a.values.now c.if-search-eq0.true)
 
-pub returns-then-is_empty : goal.returns-then-is_empty
-returns-then-is_empty t c =
+pub returns-in_default : goal.returns-in_default
+returns-in_default t c =
     let a = c.args in
     let r = c.requires.walkable in
-    let none : a.values.now ≡ [] = empty a.values.now (omega (arith, eqb-true (length a.values.now) 0 (sym c.is_empty.ensures ∙ c.if-is_empty.true))) in
+    let none : a.values.now ≡ [] = empty a.values.now (omega (arith, c.in_default.ensures.cases)) in
     let all : limited_bundles a.self.now.bundles ≡ a.self.now.bundles = omega (arith, r.some_bundles, r.few_bundles) in
     let least = least_of (load_of a.laid.now.loads) a.self.now.bundles in
     let is-least : c.least-low.result ≡ least = c.least-low.ensures ∙ ap (least_of (load_of a.laid.now.loads)) all in
@@ -74,8 +61,9 @@ returns-then-is_out_of_reach t c =
     let values = a.values.now in
     let r = c.requires.walkable in
     let most = max 1 (get_or a.self.now.greatest a.laid.now.at 0) in
+    let parts : values ≡ c.in-Some.value.now ∷ c.in-Some.rest.now = c.in-Some.ensures.cases.0 in
     let is-greatest : get_or a.self.now.greatest a.laid.now.at 0 ≡ greatest_value values =
-    ap (λ k. get_or a.self.now.greatest k 0) (sym (add-zero a.laid.now.at)) ∙ c.requires.greatest 0 (omega (arith, eqb-false (length values) 0 (sym c.is_empty.ensures ∙ c.if-is_empty.false))) in
+    ap (λ k. get_or a.self.now.greatest k 0) (sym (add-zero a.laid.now.at)) ∙ c.requires.greatest 0 (omega (arith, ap length parts)) in
     let all : a.self.now.bundles ≡ min a.self.now.bundles most_agents = omega (arith, r.few_bundles) in
     c.pass.ensures
     ∙ ap (λ k. passing k a.search) (counted a.self.now.counts.now a.self.now.bundles (length values) (length values) a.laid.now.used c.requires.counted (omega (arith, r.few)) r.few_bundles (omega arith) r.opened)
@@ -86,18 +74,18 @@ pub search-found-requires : goal.search-found-requires
 search-found-requires t c =
     let a = c.args in
     let values = a.values.now in
-    let parts = values-are values (sym c.is_empty.ensures ∙ c.if-is_empty.false) in
+    let parts : values ≡ c.in-Some.value.now ∷ c.in-Some.rest.now = c.in-Some.ensures.cases.0 in
     let bundle = c.loop-bundle.bundle in
-    let laid = walkable-next a.self.now.bundles a.laid.now.at a.laid.now.used a.laid.now.loads a.laid.now.partition a.self.now.ceiling a.search (next values) (later values)
+    let laid = walkable-next a.self.now.bundles a.laid.now.at a.laid.now.used a.laid.now.loads a.laid.now.partition a.self.now.ceiling a.search c.in-Some.value.now c.in-Some.rest.now
     (subst (λ values. Walkable values a.self.now.bundles a.laid.now.at a.laid.now.used a.laid.now.loads) parts c.requires.walkable) bundle (omega arith) (omega (arith, c.requires.walkable.few_bundles, c.requires.walkable.places)) in
     let known = c.loop-bundle.invariant in
-    let stored : Walkable (later values) a.self.now.bundles c.loop-bundle.next.at c.max.result (set c.loop-bundle.next.loads bundle (get_or a.laid.now.loads bundle 0 + next values)) =
+    let stored : Walkable c.in-Some.rest.now a.self.now.bundles c.loop-bundle.next.at c.max.result (set c.loop-bundle.next.loads bundle (get_or a.laid.now.loads bundle 0 + c.in-Some.value.now)) =
     rw (known.next_item, c.max.ensures, known.same_loads) laid in
-    let greatest = greatest_from-next a.laid.now.at (next values) (later values) a.self.now.greatest (subst (λ values. GreatestFrom a.laid.now.at values a.self.now.greatest) parts c.requires.greatest) in (
+    let greatest = greatest_from-next a.laid.now.at c.in-Some.value.now c.in-Some.rest.now a.self.now.greatest (subst (λ values. GreatestFrom a.laid.now.at values a.self.now.greatest) parts c.requires.greatest) in (
       omega (arith, c.requires.walkable, ap length parts),
       (
         stored,
-        (λ left used few in_use. c.requires.counted left used (omega (arith, ap length parts)) in_use, subst (λ at. GreatestFrom at (later values) a.self.now.greatest) (sym known.next_item) greatest),
+        (λ left used few in_use. c.requires.counted left used (omega (arith, ap length parts)) in_use, subst (λ at. GreatestFrom at c.in-Some.rest.now a.self.now.greatest) (sym known.next_item) greatest),
       ),
     )
 
@@ -107,10 +95,10 @@ loop-bundle-preserved t c =
     let r = c.requires.walkable in
     let a = c.args in
     let values = a.values.now in
-    let parts = values-are values (sym c.is_empty.ensures ∙ c.if-is_empty.false) in
-    let rest = later values in
+    let parts : values ≡ c.in-Some.value.now ∷ c.in-Some.rest.now = c.in-Some.ensures.cases.0 in
+    let rest = c.in-Some.rest.now in
     let bundle = c.loop-bundle.bundle in
-    let up_to = walked_up_to a.self.now.bundles a.laid.now.at a.laid.now.used a.laid.now.loads a.laid.now.partition a.self.now.ceiling a.search (next values) rest in
+    let up_to = walked_up_to a.self.now.bundles a.laid.now.at a.laid.now.used a.laid.now.loads a.laid.now.partition a.self.now.ceiling a.search c.in-Some.value.now rest in
     let loads = a.laid.now.loads in
     let places = c.loop-bundle.next.partition in
     let found = c.loop-bundle.found in
@@ -121,7 +109,7 @@ loop-bundle-preserved t c =
       next_item = elim c.if-is_wasted.branch [ then-is_wasted w ↦ ap (λ n. n.at) w.next-is ∙ known.next_item | else-is_wasted w ↦ ap (λ n. n.at) w.next-is ∙ known.next_item ];
       same_loads = elim c.if-is_wasted.branch [
         | then-is_wasted w ↦ ap (λ n. n.loads) w.next-is ∙ known.same_loads
-        | else-is_wasted w ↦ ap (λ n. n.loads) w.next-is ∙ ap (λ l. set (set l bundle (get_or loads bundle 0 + next values)) bundle (get_or loads bundle 0)) known.same_loads ∙ store-back loads bundle (get_or loads bundle 0 + next values) 0
+        | else-is_wasted w ↦ ap (λ n. n.loads) w.next-is ∙ ap (λ l. set (set l bundle (get_or loads bundle 0 + c.in-Some.value.now)) bundle (get_or loads bundle 0)) known.same_loads ∙ store-back loads bundle (get_or loads bundle 0 + c.in-Some.value.now) 0
       ];
       same_places = λ d. elim c.if-is_wasted.branch [
         | then-is_wasted w ↦ ap (λ n. set n.partition a.laid.now.at d) w.next-is ∙ known.same_places d
@@ -135,12 +123,12 @@ loop-bundle-preserved t c =
             ∙ ap (λ used. passing (count_at a.self.now.counts.now (min (length rest) most_items) (min used most_agents)) found) opened
             ∙ ap (λ count. passing count found) (counted a.self.now.counts.now a.self.now.bundles (length values) (length rest) (max a.laid.now.used (bundle + 1)) c.requires.counted (omega (arith, r.few)) r.few_bundles few in_use)
             ∙ ap (passing (length (growth_from a.self.now.bundles (max a.laid.now.used (bundle + 1)) (length rest)))) known.tried
-            ∙ sym (walked_up_to-wasted a.self.now.bundles a.laid.now.at a.laid.now.used loads a.laid.now.partition a.self.now.ceiling a.search (next values) rest bundle wasted.0 wasted.1 r.opened
+            ∙ sym (walked_up_to-wasted a.self.now.bundles a.laid.now.at a.laid.now.used loads a.laid.now.partition a.self.now.ceiling a.search c.in-Some.value.now rest bundle wasted.0 wasted.1 r.opened
             (omega (arith, wasted.2, nth-next 0 loads bundle, ap (λ f. f.best.goal) known.tried)))
         | else-is_wasted w ↦ w.found-is
             ∙ rw (opened, known.tried, known.next_item) at w.search-found.ensures
-            ∙ ap₂ (λ l places. walked rest a.self.now.bundles (a.laid.now.at + 1) (max a.laid.now.used (bundle + 1)) (set l bundle (get_or loads bundle 0 + next values)) places a.self.now.ceiling (up_to bundle)) known.same_loads (known.same_places (bundle + 1))
-            ∙ sym (walked_up_to-next a.self.now.bundles a.laid.now.at a.laid.now.used loads a.laid.now.partition a.self.now.ceiling a.search (next values) rest bundle (omega (arith, r.few_bundles, r.places)))
+            ∙ ap₂ (λ l places. walked rest a.self.now.bundles (a.laid.now.at + 1) (max a.laid.now.used (bundle + 1)) (set l bundle (get_or loads bundle 0 + c.in-Some.value.now)) places a.self.now.ceiling (up_to bundle)) known.same_loads (known.same_places (bundle + 1))
+            ∙ sym (walked_up_to-next a.self.now.bundles a.laid.now.at a.laid.now.used loads a.laid.now.partition a.self.now.ceiling a.search c.in-Some.value.now rest bundle (omega (arith, r.few_bundles, r.places)))
       ];
     }
 
@@ -148,9 +136,9 @@ pub returns : goal.returns
 returns t c =
     let a = c.args in
     let values = a.values.now in
-    let parts = values-are values (sym c.is_empty.ensures ∙ c.if-is_empty.false) in
+    let parts : values ≡ c.in-Some.value.now ∷ c.in-Some.rest.now = c.in-Some.ensures.cases.0 in
     let all : c.loop-bundle.bundle ≡ min (a.laid.now.used + 1) a.self.now.bundles = omega (arith, c.open_bundles-bundle-end.ensures) in
     c.loop-bundle.invariant.tried
-    ∙ ap (walked_up_to a.self.now.bundles a.laid.now.at a.laid.now.used a.laid.now.loads a.laid.now.partition a.self.now.ceiling a.search (next values) (later values)) all
-    ∙ sym (walked_all a.self.now.bundles a.laid.now.at a.laid.now.used a.laid.now.loads a.laid.now.partition a.self.now.ceiling a.search (next values) (later values))
+    ∙ ap (walked_up_to a.self.now.bundles a.laid.now.at a.laid.now.used a.laid.now.loads a.laid.now.partition a.self.now.ceiling a.search c.in-Some.value.now c.in-Some.rest.now) all
+    ∙ sym (walked_all a.self.now.bundles a.laid.now.at a.laid.now.used a.laid.now.loads a.laid.now.partition a.self.now.ceiling a.search c.in-Some.value.now c.in-Some.rest.now)
     ∙ ap (λ values. walked values a.self.now.bundles a.laid.now.at a.laid.now.used a.laid.now.loads a.laid.now.partition a.self.now.ceiling a.search) (sym parts)
