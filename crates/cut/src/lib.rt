@@ -4,18 +4,19 @@
 // the share first, which does not depend on the order of the values, and then looks for the first partition that reaches it.
 #![tactic(auto)]
 
-ghost use Rattle.std.specs.Prelude.{◌≡◌, ◌≤◌, ◌<◌, leb, length, replicate};
+ghost use Rattle.std.specs.Prelude.{◌≡◌, ◌≤◌, ◌<◌, ◌/◌, leb, length, replicate};
 ghost use Rattle.lists.specs.Sums.{total};
-ghost use Rattle.sheet.specs.Limits.{most_agents, most_items, greatest_sum};
+ghost use Rattle.sheet.specs.Limits.{most_items};
 ghost use Rattle.sheet.specs.Answers.{map_answer};
 ghost use Rattle.sheet.specs.Refusals.{answer_of};
 ghost use Rattle.growth.specs.Growth.{growths};
 ghost use Rattle.cut.specs.Outcome.{placed, stored, whole_cut, stopped_cut, found, cutting};
 ghost use Rattle.cut.specs.internal.Allowed.{Allowed};
 
-use crate::sharing::{deal, mean};
+use crate::sharing::deal;
 use crate::sorting::falling;
 use growth::{MOST, count};
+use reach::pruning::supplied;
 use sheet::refusal::Refusal;
 use sheet::valuing::values_of;
 use sheet::{Row, Sheet, is_within};
@@ -60,12 +61,19 @@ struct Request<'a> {
 }
 
 impl Request<'_> {
+    // The mean of the bundles, which no least bundle exceeds.
+    fn mean(&self) -> u64
+        ensures { result ≡ total self.now.values.now / self.now.bundles }
+    {
+        supplied(self.values, Sheet::GREATEST_SUM) / self.bundles as u64
+    }
+
     // The cut that its allowance stops: one walk over the growth partitions in dictionary order, as far as the allowance goes.
     fn cut_stopped(&self) -> Cutting
         requires { self.now.allowance < growths self.now.bundles (length self.now.values.now) }
         ensures { result ≡ stored (stopped_cut self.now.bundles self.now.values.now self.now.allowance) }
     {
-        let ceiling = mean(self.values, self.bundles);
+        let ceiling = self.mean();
         let end = find(self.values, self.bundles, ceiling, 0, self.allowance);
         let partition = end.best.partition;
         Cutting {
@@ -88,7 +96,7 @@ impl Request<'_> {
         } = *self;
         let sorted = falling(values);
         let ordered = &sorted[..values.len()];
-        let ceiling = mean(values, bundles);
+        let ceiling = self.mean();
         let goal = deal(ordered, bundles) + 1;
         let end = find_after(ordered, values, bundles, ceiling, goal, allowance);
         let partition = end.best.partition;
@@ -101,10 +109,11 @@ impl Request<'_> {
 
     // The cut in one bundle, of which there is one partition.
     fn cut_in_one(&self) -> Cutting
+        requires { self.now.bundles ≡ 1 }
         ensures { result ≡ stored (whole_cut 1 self.now.values.now) }
     {
         Cutting {
-            figure: Figure::Share(mean(self.values, 1)),
+            figure: Figure::Share(self.mean()),
             partition: all_in_first(self.values.len()),
             count: 1,
         }

@@ -1,20 +1,11 @@
-// Two figures that the maximin share lies between.
-ghost use Rattle.std.specs.Prelude.{◌≡◌, ◌≤◌, ◌<◌, ◌/◌, length};
+// A quick figure that the maximin share reaches.
+ghost use Rattle.std.specs.Prelude.{◌≤◌, ◌<◌};
 ghost use Rattle.lists.specs.Sums.{total};
-ghost use Rattle.sheet.specs.Limits.{most_agents, most_items, greatest_sum};
+ghost use Rattle.sheet.specs.Limits.{most_agents, greatest_sum};
 ghost use Rattle.maximin.specs.Share.{maximin_share};
 
 use reach::loads::{Loads, least};
-use reach::pruning::supplied;
 use sheet::Sheet;
-
-// The mean of the bundles, which no least bundle exceeds.
-pub(crate) fn mean(values: &[u64], bundles: usize) -> u64
-    requires { (length values.now ≤ most_items) × (total values.now ≤ greatest_sum) × (1 ≤ bundles) × (bundles ≤ most_agents) }
-    ensures { result ≡ total values.now / bundles }
-{
-    supplied(values, Sheet::GREATEST_SUM) / bundles as u64
-}
 
 // One of the least of the first `bundles` loads. Only that it is one of them is relied on.
 fn lightest(loads: &Loads, bundles: usize) -> usize
@@ -30,7 +21,7 @@ fn lightest(loads: &Loads, bundles: usize) -> usize
     light
 }
 
-// The least bundle once each value in turn is put on one of the lightest bundles: a quick figure that the share reaches.
+// The least bundle once each value in turn is put on one of the lightest bundles. The share reaches it.
 pub(crate) fn deal(values: &[u64], bundles: usize) -> u64
     requires { (total values.now ≤ greatest_sum) × (1 ≤ bundles) × (bundles ≤ most_agents) }
     ensures { result ≤ maximin_share bundles values.now }
