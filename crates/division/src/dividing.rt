@@ -69,7 +69,10 @@ fn cut_left(table: Table, cutter: u8, left: u16, set: u16, allowance: u32) -> Pa
     ensures { result ≡ placed (cut_left table cutter (agents_in left) (items_of set)) }
 {
     let agents = items_of(left);
-    cut(table[cutter as usize - 1], set, agents.len(), allowance).partition
+    let Ok(cutting) = cut(table[cutter as usize - 1], set, agents.len(), allowance) else {
+        unreachable!()
+    };
+    cutting.partition
 }
 
 // The allocation once the agents left have divided the items left: one round, and the agents that wait divide what it leaves, with the same

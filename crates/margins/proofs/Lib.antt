@@ -1,4 +1,3 @@
 -- Laws of the sign and the size of a margin, and of terms that are not cut.
 pub mod Signs
 pub mod Stored
-pub mod Places

@@ -5,8 +5,8 @@ ghost use Rattle.std.specs.Prelude.{◌≡◌, map, ◌≤◌, IfOk};
 ghost use Rattle.sheet.specs.Limits.{greatest_sum, CountsWithin, InUse};
 ghost use Rattle.sheet.specs.Answers.{map_answer};
 ghost use Rattle.sheet.specs.Refusals.{answer_of};
-ghost use Rattle.sheet.specs.Tables.{all_values, profile};
-ghost use Rattle.sheet.specs.Contents.{sheet_of, contents};
+ghost use Rattle.sheet.specs.Tables.{all_values};
+ghost use Rattle.sheet.specs.Contents.{contents, valuations_of};
 ghost use Rattle.sheet.specs.Amounts.{SmallAmounts};
 ghost use Rattle.growth.specs.Growth.{growths};
 ghost use Rattle.cut.specs.Outcome.{cutting_of};
@@ -15,7 +15,7 @@ ghost use Rattle.shares.specs.Stored.{stored};
 ghost use Rattle.shares.specs.Known.{SharesIn};
 ghost use Rattle.shares.specs.internal.OwnCuts.{own_cut};
 
-use cut::{Figure, Partition};
+use cut::{Figure, Partition, cut};
 use sheet::amounts::Amounts;
 use sheet::naming::all_items;
 use sheet::refusal::Refusal;
@@ -36,13 +36,14 @@ struct OwnCut {
     partition: Partition,
 }
 
-// The share and the cut of the items from 1 to `items` in `bundles` bundles, with an allowance that does not stop the cut.
-fn own_cut(valuation: Row, items: usize, bundles: usize, allowance: u32) -> OwnCut
-    requires { InUse bundles items × (growths bundles items ≤ allowance) }
-    ensures own { result ≡ own_cut bundles (all_values items valuation) }
+// The share of an agent with this valuation and its cut of all items, in as many bundles as there are agents, with an allowance that does
+// not stop the cut.
+fn own_cut(valuation: Row, sheet: Sheet, allowance: u32) -> OwnCut
+    requires { InUse sheet.agents sheet.items × (growths sheet.agents sheet.items ≤ allowance) }
+    ensures own { result ≡ own_cut sheet.agents (all_values sheet.items valuation) }
     ensures bound { result.share ≤ greatest_sum }
 {
-    let Ok(cutting) = cut::cut(valuation, all_items(items), bundles, allowance) else {
+    let Ok(cutting) = cut(valuation, all_items(sheet.items), sheet.agents, allowance) else {
         unreachable!()
     };
     let Figure::Share(share) = cutting.figure else {
@@ -53,15 +54,15 @@ fn own_cut(valuation: Row, items: usize, bundles: usize, allowance: u32) -> OwnC
 }
 
 // The share and the cut of each agent: over all items, in as many bundles as there are agents, and with an allowance that stops no cut.
-fn own_cuts(table: Table, agents: usize, items: usize, allowance: u32) -> Shares
-    requires { InUse agents items × (growths agents items ≤ allowance) }
-    ensures each { result ≡ stored (map (cutting_of agents) (profile agents items table)) }
+fn own_cuts(table: Table, sheet: Sheet, allowance: u32) -> Shares
+    requires { InUse sheet.agents sheet.items × (growths sheet.agents sheet.items ≤ allowance) }
+    ensures each { result ≡ stored (map (cutting_of sheet.agents) (valuations_of (contents sheet table))) }
     ensures bound { SmallAmounts result.shares }
 {
     let mut shares = [0; Sheet::AGENTS];
     let mut cuts = [[0; Sheet::ITEMS]; Sheet::AGENTS];
-    for i in 0..agents {
-        let OwnCut { share, partition } = own_cut(table[i], items, agents, allowance);
+    for i in 0..sheet.agents {
+        let OwnCut { share, partition } = own_cut(table[i], sheet, allowance);
         shares[i] = share;
         cuts[i] = partition;
     }
@@ -69,13 +70,13 @@ fn own_cuts(table: Table, agents: usize, items: usize, allowance: u32) -> Shares
 }
 
 // The makers' check, refusal 9: whether no agent's share times the number of agents exceeds the sum of its marks.
-fn shares_covered(table: Table, agents: usize, items: usize, shares: Amounts) -> bool
-    requires { SharesIn (sheet_of agents items table) shares }
-    ensures { result ≡ shares_covered agents (profile agents items table) }
+fn shares_covered(table: Table, sheet: Sheet, shares: Amounts) -> bool
+    requires { SharesIn (contents sheet table) shares }
+    ensures { result ≡ shares_covered sheet.agents (valuations_of (contents sheet table)) }
 {
-    let set = all_items(items);
-    for i in 0..agents {
-        if agents as u64 * shares[i] > value_of(table[i], set) {
+    let set = all_items(sheet.items);
+    for i in 0..sheet.agents {
+        if sheet.agents as u64 * shares[i] > value_of(table[i], set) {
             return false;
         }
     }
@@ -84,18 +85,13 @@ fn shares_covered(table: Table, agents: usize, items: usize, shares: Amounts) ->
 
 // The share and the cut of each agent, where the counts are within the limits and the allowance stops no cut. Refused with 9 where the
 // makers' check fails.
-fn checked_cuts(
-    table: Table,
-    agents: usize,
-    items: usize,
-    allowance: u32,
-) -> Result<Shares, Refusal>
-    requires { CountsWithin agents items × (growths agents items ≤ allowance) }
-    ensures answer { answer_of result ≡ map_answer stored (sharing (sheet_of agents items table)) }
+fn checked_cuts(table: Table, sheet: Sheet, allowance: u32) -> Result<Shares, Refusal>
+    requires { CountsWithin sheet.agents sheet.items × (growths sheet.agents sheet.items ≤ allowance) }
+    ensures answer { answer_of result ≡ map_answer stored (sharing (contents sheet table)) }
     ensures bound { IfOk result (λ own. SmallAmounts own.shares) }
 {
-    let own = own_cuts(table, agents, items, allowance);
-    if !shares_covered(table, agents, items, own.shares) {
+    let own = own_cuts(table, sheet, allowance);
+    if !shares_covered(table, sheet, own.shares) {
         return Err(Refusal::SharesNotCovered);
     }
     Ok(own)
@@ -117,7 +113,7 @@ pub fn share_each_within(table: Table, sheet: Sheet, allowance: u32) -> Result<S
     if allowance < growth::count(sheet.items, sheet.agents) {
         return Err(Refusal::AllowanceTooSmall);
     }
-    checked_cuts(table, sheet.agents, sheet.items, allowance)
+    checked_cuts(table, sheet, allowance)
 }
 
 // The maximin share and the cut of each agent, with an allowance that is enough for every table. Refused with 4 or 5 where the agents or

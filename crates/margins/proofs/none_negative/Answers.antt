@@ -9,7 +9,7 @@ use Rattle.std.proofs.lemmas.Iterator.Search.{all_from_yields_List}
 use Rattle.lists.specs.Lists.{nth}
 use Rattle.lists.proofs.places.Places.{nth-next}
 use Rattle.margins.specs.Margins.{none_negative}
-use Rattle.margins.proofs.Places.{all-places}
+use Rattle.sheet.proofs.listing.Entries.{all-places}
 use Rattle.margins.proofs.none_negative.Goals as goal
 
 pub returns : goal.returns
