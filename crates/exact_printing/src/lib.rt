@@ -31,7 +31,7 @@ fn put_bundles(writer: &mut Writer, agents: usize, bundles: Sets)
     for set in &bundles[..agents] {
         let bundle = items_of(*set);
         writer.byte(b' ');
-        writer.group(bundle.as_slice());
+        writer.group(&bundle.numbers[..bundle.count]);
     }
 }
 
@@ -60,11 +60,11 @@ fn print_bundles(agents: usize, bundles: Sets, buffer: &mut [u8]) -> Result<usiz
 // Searches a sheet for an exact division and prints it, or the word none, from the front of the buffer. Refused
 // as by `find_exact`, else with 10 where the buffer is shorter than the text; then the buffer keeps all its bytes.
 pub fn print_exact(table: Table, sheet: Sheet, buffer: &mut [u8]) -> Result<usize, Refusal>
-    ensures { Printed (contents sheet table) buffer.old result buffer.new }
+    ensures { Printed (contents sheet table) buffer.old (answer_of result) buffer.new }
 {
-    let found = find_exact(table, sheet)?;
-    match found {
-        None => fill(b"(exact none)\n", buffer),
+    let exact = find_exact(table, sheet)?;
+    match exact {
         Some(bundles) => print_bundles(sheet.agents, bundles, buffer),
+        None => fill(b"(exact none)\n", buffer),
     }
 }
