@@ -3,15 +3,16 @@ ghost use Rattle.std.specs.Prelude.{◌≡◌, ◌≤◌, length};
 ghost use mathlib.Core.List.{flat_map};
 ghost use Rattle.lists.specs.Lists.{range};
 ghost use Rattle.sheet.specs.Limits.{most_agents};
-ghost use Rattle.sheet.specs.Answers.{after};
-ghost use Rattle.writing.specs.Answered.{answered};
+ghost use Rattle.sheet.specs.Answers.{map_answer, after};
+ghost use Rattle.sheet.specs.Refusals.{answer_of};
 ghost use Rattle.writing.specs.Filled.{filling, filled};
 ghost use Rattle.writing.specs.WithText.{Writes};
 ghost use Rattle.sheet_to_judgement.specs.internal.MarginsText.{spaced_margin, margins_text};
 
 use margins::Margins;
 use sheet::Sheet;
-use writing::{Answer, Writer, fill};
+use sheet::refusal::Refusal;
+use writing::{Writer, fill};
 
 // The most digits of a margin: a whole number of 64 bits has no more.
 const MARGIN_DIGITS: usize = 19;
@@ -42,9 +43,13 @@ fn put_accepted(writer: &mut Writer, agents: usize, margins: Margins)
 }
 
 // Prints the margins of the agents; refused with 10 where the buffer is shorter than the text.
-pub(crate) fn print_margins(agents: usize, margins: Margins, buffer: &mut [u8]) -> Answer
+pub(crate) fn print_margins(
+    agents: usize,
+    margins: Margins,
+    buffer: &mut [u8],
+) -> Result<usize, Refusal>
     requires { agents ≤ most_agents }
-    ensures answer { result ≡ answered (filling (length buffer.old) (margins_text agents margins)) }
+    ensures answer { answer_of result ≡ map_answer length (filling (length buffer.old) (margins_text agents margins)) }
     ensures buffer { buffer.new ≡ after filled (filling (length buffer.old) (margins_text agents margins)) buffer.old }
 {
     let mut text = [0u8; LONGEST];
