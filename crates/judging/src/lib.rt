@@ -40,10 +40,10 @@ fn judge_shared(
     division: Stated,
 ) -> Result<Margins, Refusal>
     requires { SharesIn (contents sheet table) shares × SmallTerms terms }
-    ensures { answer_of result ≡ map_answer stored (judging_by (contents sheet table) terms (stated_in sheet.agents division)) }
+    ensures { answer_of result ≡ map_answer stored (judging_by (contents sheet table) terms (stated_in sheet.agents (Some division))) }
 {
     let Sheet { agents, items } = sheet;
-    let Stated { read, grade, lines } = division;
+    let Stated { grade, lines } = division;
     let bundles = bundles_of(lines);
     let assessed = assess(table, sheet, terms, shares, bundles);
     let named = all_of_sheet(bundles, lines, agents, items);
@@ -58,8 +58,7 @@ fn judge_shared(
         assessed.grade,
         grade,
     );
-    let laid_out = read && named;
-    if !laid_out {
+    if !named {
         return Err(Refusal::DivisionMalformed);
     }
     if !once {
@@ -74,10 +73,11 @@ fn judge_shared(
 // The margin of each agent, 0 after the last, where all that a division of a sheet states is true, by the terms of document 01. Refused as the
 // shares of the sheet are; else with 11 where the division is not read or names an item that is not on the sheet, with 12 where an item is in
 // no bundle or in two, of the division or of a cut, and with 13 where a worth, a share, a cut or the grade is false.
-pub fn judge(table: Table, sheet: Sheet, division: Stated) -> Result<Margins, Refusal>
+pub fn judge(table: Table, sheet: Sheet, division: Option<Stated>) -> Result<Margins, Refusal>
     ensures { answer_of result ≡ map_answer stored (judging (contents sheet table) (stated_in sheet.agents division)) }
 {
     let own = share_each(table, sheet)?;
+    let division = division.ok_or(Refusal::DivisionMalformed)?;
     let terms = terms_for(sheet.agents);
     judge_shared(table, sheet, terms, own.shares, division)
 }

@@ -1,9 +1,11 @@
 use mathlib.Core.Path.{◌≡◌, sym, ap, ◌∙◌}
+use Rattle.std.specs.Prelude.{None, Some}
 use Prim.Native.Nat.{min}
 use native.Mathlib.Omega.{arith}
 use Rattle.std.proofs.lemmas.Result.{err_from_is_err_and}
 use Rattle.sheet.specs.Limits.{most_agents}
 use Rattle.sheet.specs.Refusals.{number}
+use Rattle.sheet.specs.declared.refusal.Refusal.TheVariants.{DivisionMalformed}
 use Rattle.sheet.specs.Answers.{map_answer}
 use Rattle.sheet.specs.Contents.{contents}
 use Rattle.sheet.proofs.Answering.{refused-of_err}
@@ -15,7 +17,7 @@ use Rattle.terms.proofs.Allowed.{terms_for-small}
 use Rattle.judging.specs.Stored.{stored}
 use Rattle.stated_truth.specs.Lines.{stated_in}
 use Rattle.stated_truth.specs.Judging.{judging_by}
-use Rattle.stated_truth.proofs.Verdicts.{judging-refused}
+use Rattle.stated_truth.proofs.Verdicts.{judging-refused, judging-within}
 use Rattle.judging.proofs.judge.Goals as goal
 use Rattle.judging.proofs.judge.Goals.{After-terms_for-terms}
 
@@ -42,7 +44,18 @@ returns-in_err-own c =
     let refused-so = refused-of_err shares_stored (sharing sheet) c.in_err-own.field-0.0 c.in_err-own.ensures.answer in
     rw (p.1, p.2) (sym (ap (map_answer stored) (judging-refused sheet (terms_for c.args.sheet.agents) (stated_in c.args.sheet.agents c.args.division) (number c.in_err-own.field-0.0) refused-so)))
 
+pub returns-in_err-division : goal.returns-in_err-division
+returns-in_err-division c =
+    let sheet = contents c.args.sheet c.args.table in
+    let p = err_from_is_err_and c.from_residual-in_err-division.result c.from_residual-in_err-division.ensures.1 in
+    let none = c.in_err-division.ensures.ok_part in
+    let reason : c.in_err-division.field-0.0 ≡ DivisionMalformed = cc (rw none at c.in_err-division.ensures.value) in
+    let counts = answered-counts sheet c.in_ok-own.own c.in_ok-own.ensures.answer in
+    rw (p.1, p.2, reason, none) (sym (ap (map_answer stored) (judging-within sheet (terms_for c.args.sheet.agents) None counts)))
+
 pub returns : goal.returns
 returns c =
     let sheet = contents c.args.sheet c.args.table in
-    c.judge_shared.ensures ∙ ap (λ terms. map_answer stored (judging_by sheet terms (stated_in c.args.sheet.agents c.args.division))) (terms-told (goal.at.returns c).After-terms_for-terms)
+    c.judge_shared.ensures
+    ∙ ap (λ terms. map_answer stored (judging_by sheet terms (stated_in c.args.sheet.agents (Some c.in_ok-division.division)))) (terms-told (goal.at.returns c).After-terms_for-terms)
+    ∙ ap (λ stated. map_answer stored (judging_by sheet (terms_for c.args.sheet.agents) (stated_in c.args.sheet.agents stated))) (sym c.in_ok-division.ensures.ok_part)

@@ -1,7 +1,7 @@
-use mathlib.Core.Path.{◌≡◌, refl, sym, ap, ap₂, ◌∙◌}
-use mathlib.Core.Bool.{Bool, true, false, cond, ◌&&◌, and-eq-true_iff}
+use mathlib.Core.Path.{◌≡◌, sym, ap, ap₂, ◌∙◌}
+use mathlib.Core.Bool.{Bool, true}
 use mathlib.Core.List.{List, [], map, Memᴰ as Mem}
-use Rattle.std.specs.Prelude.{Option, None, Some}
+use Rattle.std.specs.Prelude.{Some}
 use Prim.Native.Nat.{ℕ, min}
 use native.Mathlib.Omega.{arith}
 use lib.IntN.{ℤ, pos}
@@ -9,13 +9,13 @@ use Rattle.lists.specs.Lists.{range, nth, padded}
 use Rattle.sheet.specs.Limits.{most_agents, most_items}
 use Rattle.sheet.specs.Contents.{Contents, contents}
 use Rattle.sheet.specs.Sets.{items_of}
-use Rattle.sheet.specs.Answers.{Answer, refused, accepted, require_some, map_answer}
+use Rattle.sheet.specs.Answers.{Answer, accepted, map_answer}
 use Rattle.grades.specs.Scale.{margins_by_terms, grade_by_terms, assessment_by_terms}
 use Rattle.grades.proofs.InPlaces.{assessment_in-by-terms}
 use Rattle.grading.specs.Assessed.{assessed}
 use Rattle.division_reading.specs.Stated.{Stated}
 use Rattle.stated_truth.specs.Truth.{bundles_of, bundles_and_cuts, of_sheet, each_in_one, figures_true}
-use Rattle.stated_truth.specs.Lines.{stated_of, stated_in, sets_and_cuts, figures_true_by}
+use Rattle.stated_truth.specs.Lines.{stated_of, sets_and_cuts, figures_true_by}
 use Rattle.stated_truth.specs.Judging.{judging_by, judging_read}
 use Rattle.stated_truth.proofs.Verdicts.{judging-within, judged-off-sheet, judged-not-once, judged-false, judged-true}
 use Rattle.judging.specs.Stored.{stored}
@@ -26,10 +26,6 @@ use Rattle.judging.proofs.judge_shared.Goals.{After-figures_true-correct}
 -- the sheet
 abbrev sheet_in : After-figures_true-correct → Contents
 sheet_in s = contents s.args.sheet s.args.table
-
--- what is stated of it, as it is handed over
-abbrev stated_at : After-figures_true-correct → Option Stated
-stated_at s = stated_in s.args.sheet.agents s.args.division
 
 -- what the lines state
 abbrev division : After-figures_true-correct → Stated
@@ -100,62 +96,36 @@ figures-told c =
     ∙ ap₂ (λ n m. figures_true_by n m a.table a.shares c.assess-assessed.result.worths a.division.lines c.assess-assessed.result.grade a.division.grade) (agents-kept c) (items_kept c)
     ∙ sym c.figures_true-correct.ensures
 
--- the answer on what is read, or on nothing
-answer-of : (c : After-figures_true-correct) (read : Bool)
-    → c.args.division.read ≡ read
-    → judging_by (sheet_in c) c.args.terms (stated_at c) ≡ require_some 11 (cond read (Some (division c)) None) (judging_read (sheet_in c) c.args.terms)
-answer-of c read e =
-    judging-within (sheet_in c) c.args.terms (stated_at c) c.requires.0.counts
-    ∙ ap (λ read. require_some 11 (cond read (Some (division c)) None) (judging_read (sheet_in c) c.args.terms)) e
+-- the answer is that on what is stated
+answer-told : (c : After-figures_true-correct) → judging_by (sheet_in c) c.args.terms (Some (division c)) ≡ answer c
+answer-told c = judging-within (sheet_in c) c.args.terms (Some (division c)) c.requires.0.counts
 
--- what is read, and whether it passes the second test of refusal 11
-both_told : (c : After-figures_true-correct) (laid_out : Bool) → laid_out ≡ c.args.division.read && c.all_of_sheet-named.result → laid_out ≡ c.args.division.read && of_this_sheet c
-both_told c laid_out e = e ∙ ap (λ named. c.args.division.read && named) (sym (of-sheet-told c))
-
--- where both hold, the answer is that on what is stated
-passed : (c : After-figures_true-correct) → true ≡ c.args.division.read && c.all_of_sheet-named.result → (c.args.division.read ≡ true) × (of_this_sheet c ≡ true)
-passed c e = (and-eq-true_iff c.args.division.read (of_this_sheet c)).0 (sym (both_told c true e))
-
-answer-read : (c : After-figures_true-correct) → true ≡ c.args.division.read && c.all_of_sheet-named.result → judging_by (sheet_in c) c.args.terms (stated_at c) ≡ answer c
-answer-read c e = answer-of c true (passed c e).0
-
--- where not both hold, the answer is refusal 11
-off-layout : (c : After-figures_true-correct) (read : Bool)
-    → c.args.division.read ≡ read → read && of_this_sheet c ≡ false → judging_by (sheet_in c) c.args.terms (stated_at c) ≡ refused 11
-off-layout c true e out = answer-of c true e ∙ judged-off-sheet (sheet_in c) c.args.terms (division c) out
-off-layout c false e out = answer-of c false e
-
--- each item is in just one bundle
-once : (c : After-figures_true-correct) → c.all_in_one-once.result ≡ true → bundles_and_cuts (each_in_one c.args.sheet.items) (division c) ≡ true
-once c e = in-one-told c ∙ e
-
-pub returns-then-not-laid_out : goal.returns-then-not-laid_out
-returns-then-not-laid_out c =
-    let t = (goal.at.returns-then-not-laid_out c).After-figures_true-correct in
-    let both : c.args.division.read && c.all_of_sheet-named.result ≡ false = grind arith in
-    let answered = off-layout t c.args.division.read refl (sym (both_told t false (sym both))) in
-    sym (ap (map_answer stored) answered)
+pub returns-then-not-named : goal.returns-then-not-named
+returns-then-not-named c =
+    let t = (goal.at.returns-then-not-named c).After-figures_true-correct in
+    let out = of-sheet-told t ∙ c.if-not-named.true in
+    sym (ap (map_answer stored) (answer-told t ∙ judged-off-sheet (sheet_in t) c.args.terms (division t) out))
 
 pub returns-then-not-once : goal.returns-then-not-once
 returns-then-not-once c =
     let t = (goal.at.returns-then-not-once c).After-figures_true-correct in
-    let both : true ≡ c.args.division.read && c.all_of_sheet-named.result = grind arith in
+    let named : c.all_of_sheet-named.result ≡ true = cc in
     let out = in-one-told t ∙ c.if-not-once.true in
-    sym (ap (map_answer stored) (answer-read t both ∙ judged-not-once (sheet_in t) c.args.terms (division t) (passed t both).1 out))
+    sym (ap (map_answer stored) (answer-told t ∙ judged-not-once (sheet_in t) c.args.terms (division t) (of-sheet-told t ∙ named) out))
 
 pub returns-then-not-correct : goal.returns-then-not-correct
 returns-then-not-correct c =
     let t = (goal.at.returns-then-not-correct c).After-figures_true-correct in
-    let both : true ≡ c.args.division.read && c.all_of_sheet-named.result = grind arith in
-    let one : c.all_in_one-once.result ≡ true = cc in
+    let named : c.all_of_sheet-named.result ≡ true = cc in
+    let once : c.all_in_one-once.result ≡ true = cc in
     let out = figures-told t ∙ c.if-not-correct.true in
-    sym (ap (map_answer stored) (answer-read t both ∙ judged-false (sheet_in t) c.args.terms (division t) (passed t both).1 (once t one) out))
+    sym (ap (map_answer stored) (answer-told t ∙ judged-false (sheet_in t) c.args.terms (division t) (of-sheet-told t ∙ named) (in-one-told t ∙ once) out))
 
 pub returns : goal.returns
 returns c =
     let t = (goal.at.returns c).After-figures_true-correct in
-    let both : true ≡ c.args.division.read && c.all_of_sheet-named.result = grind arith in
-    let one : c.all_in_one-once.result ≡ true = cc in
+    let named : c.all_of_sheet-named.result ≡ true = cc in
+    let once : c.all_in_one-once.result ≡ true = cc in
     let correct = figures-told t ∙ c.if-not-correct.false in
     ap accepted (margins-told t)
-    ∙ sym (ap (map_answer stored) (answer-read t both ∙ judged-true (sheet_in t) c.args.terms (division t) (passed t both).1 (once t one) correct))
+    ∙ sym (ap (map_answer stored) (answer-told t ∙ judged-true (sheet_in t) c.args.terms (division t) (of-sheet-told t ∙ named) (in-one-told t ∙ once) correct))
