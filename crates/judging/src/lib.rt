@@ -77,7 +77,6 @@ pub fn judge(table: Table, sheet: Sheet, division: Option<Stated>) -> Result<Mar
     ensures { answer_of result ≡ map_answer stored (judging (contents sheet table) (stated_in sheet.agents division)) }
 {
     let own = share_each(table, sheet)?;
-    let division = division.ok_or(Refusal::DivisionMalformed)?;
     let terms = terms_for(sheet.agents);
     let division = division.ok_or(Refusal::DivisionMalformed)?;
     judge_shared(table, sheet, terms, own.shares, division)
