@@ -18,12 +18,12 @@ use Rattle.division.specs.declared.Division.{Division}
 -- whether the code's answer is a division
 abbrev pub is_division : Result Division Refusal → Bool
 is_division (Ok d) = true
-is_division (Err reason) = false
+is_division (Err e) = false
 
 -- the bundles (piles) in the answer for n agents: "A division has one pile for each of these yards", and "a refusal has no pile"
 abbrev pub bundles_in : ℕ → Result Division Refusal → List (List ℕ)
 bundles_in n (Ok d) = map items_of (take n d.bundles)
-bundles_in n (Err reason) = []
+bundles_in n (Err e) = []
 
 -- "The first list is the numbers from 1 to the count of yards, rising"
 abbrev pub all_agents : ℕ → List ℕ
