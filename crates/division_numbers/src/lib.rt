@@ -37,12 +37,12 @@ pub fn read_amounts(s: &[u8], c: Cursor) -> Option<(u64, u64, Cursor)>
     Some((worth, share, next))
 }
 
-// The grade, and the place after the head: (division (yards 2) (pieces 3) (grade 3))
-pub fn read_head(s: &[u8], c: Cursor, agents: usize, items: usize) -> Option<(u64, Cursor)>
-    ensures { result ≡ number_from s.now c (division_head agents items (tokens_at s.now c)) }
+// The grade, and the place after the head that repeats the counts of the sheet: (division (yards 2) (pieces 3) (grade 3))
+pub fn read_head(s: &[u8], c: Cursor, sheet: Sheet) -> Option<(u64, Cursor)>
+    ensures { result ≡ number_from s.now c (division_head sheet.agents sheet.items (tokens_at s.now c)) }
 {
-    let c1 = follow_number(s, c, &BEFORE_COUNTS, Sheet::COUNT_DIGITS, agents)?;
-    let c2 = follow_number(s, c1, &BEFORE_ITEMS, Sheet::COUNT_DIGITS, items)?;
+    let c1 = follow_number(s, c, &BEFORE_COUNTS, Sheet::COUNT_DIGITS, sheet.agents)?;
+    let c2 = follow_number(s, c1, &BEFORE_ITEMS, Sheet::COUNT_DIGITS, sheet.items)?;
     let (grade, c3) = number_after(s, c2, &BEFORE_GRADE, GRADE_DIGITS)?;
     let next = follow(s, c3, &LINE_END)?;
     Some((grade, next))

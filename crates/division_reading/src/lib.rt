@@ -41,14 +41,14 @@ pub struct Stated {
 }
 
 // The division that stands at a place of a text and ends it, of a sheet with these counts.
-pub fn read_division(s: &[u8], c: Cursor, agents: usize, items: usize) -> Option<Stated>
-    ensures { result ≡ kept (reading_division agents items (tokens_at s.now c)) }
+pub fn read_division(s: &[u8], c: Cursor, sheet: Sheet) -> Option<Stated>
+    ensures { result ≡ kept (reading_division sheet.agents sheet.items (tokens_at s.now c)) }
 {
-    if Sheet::AGENTS < agents || Sheet::ITEMS < items {
+    if Sheet::AGENTS < sheet.agents || Sheet::ITEMS < sheet.items {
         return None;
     }
-    let (grade, first) = read_head(s, c, agents, items)?;
-    let (lines, last) = lines::division_lines(s, first, agents, items)?;
+    let (grade, first) = read_head(s, c, sheet)?;
+    let (lines, last) = lines::division_lines(s, first, sheet)?;
     let _end = end_of_text(s, last)?;
     Some(Stated {
         grade: grade as u8,

@@ -25,15 +25,15 @@ fn bundle_in_turn(s: &[u8], c: Cursor, turn: usize, items: usize) -> Option<(u16
 }
 
 // As many bundles of a cut as there are agents, and the place after them.
-fn read_cut(s: &[u8], c: Cursor, agents: usize, items: usize) -> Option<(Sets, Cursor)>
-    requires agents_le_most_agents { agents ≤ most_agents }
-    requires le_most_items { items ≤ most_items }
-    ensures { result ≡ cut_from s.now c (cut_bundles agents items (tokens_at s.now c)) }
+fn read_cut(s: &[u8], c: Cursor, sheet: Sheet) -> Option<(Sets, Cursor)>
+    requires agents_le_most_agents { sheet.agents ≤ most_agents }
+    requires le_most_items { sheet.items ≤ most_items }
+    ensures { result ≡ cut_from s.now c (cut_bundles sheet.agents sheet.items (tokens_at s.now c)) }
 {
     let mut sets: Sets = [0; Sheet::AGENTS];
     let mut here = c;
-    for k in 0..agents {
-        let (set, next) = bundle_after(s, here, &BEFORE_CUT_PILE, items)?;
+    for k in 0..sheet.agents {
+        let (set, next) = bundle_after(s, here, &BEFORE_CUT_PILE, sheet.items)?;
         sets[k] = set;
         here = next;
     }
@@ -41,20 +41,14 @@ fn read_cut(s: &[u8], c: Cursor, agents: usize, items: usize) -> Option<(Sets, C
 }
 
 // (yard 1 (pile 1) (worth 5) (share 5) (cut (1) (2 3))), and the place after it.
-fn division_line(
-    s: &[u8],
-    c: Cursor,
-    turn: usize,
-    agents: usize,
-    items: usize,
-) -> Option<(StatedLine, Cursor)>
-    requires agents_le_most_agents { agents ≤ most_agents }
-    requires le_most_items { items ≤ most_items }
-    ensures { result ≡ line_from s.now c (division_line agents items turn (tokens_at s.now c)) }
+fn division_line(s: &[u8], c: Cursor, turn: usize, sheet: Sheet) -> Option<(StatedLine, Cursor)>
+    requires agents_le_most_agents { sheet.agents ≤ most_agents }
+    requires le_most_items { sheet.items ≤ most_items }
+    ensures { result ≡ line_from s.now c (division_line sheet.agents sheet.items turn (tokens_at s.now c)) }
 {
-    let (bundle, c1) = bundle_in_turn(s, c, turn, items)?;
+    let (bundle, c1) = bundle_in_turn(s, c, turn, sheet.items)?;
     let (worth, share, c2) = read_amounts(s, c1)?;
-    let (cut, c3) = read_cut(s, c2, agents, items)?;
+    let (cut, c3) = read_cut(s, c2, sheet)?;
     let next = follow(s, c3, &LINE_END)?;
     let line = StatedLine {
         bundle,
@@ -69,17 +63,16 @@ fn division_line(
 pub(crate) fn division_lines(
     s: &[u8],
     c: Cursor,
-    agents: usize,
-    items: usize,
+    sheet: Sheet,
 ) -> Option<([StatedLine; Sheet::AGENTS], Cursor)>
-    requires agents_le_most_agents { agents ≤ most_agents }
-    requires le_most_items { items ≤ most_items }
-    ensures { result ≡ lines_from s.now c (division_lines agents items (tokens_at s.now c)) }
+    requires agents_le_most_agents { sheet.agents ≤ most_agents }
+    requires le_most_items { sheet.items ≤ most_items }
+    ensures { result ≡ lines_from s.now c (division_lines sheet.agents sheet.items (tokens_at s.now c)) }
 {
     let mut lines = [StatedLine::BLANK; Sheet::AGENTS];
     let mut here = c;
-    for k in 0..agents {
-        let (line, next) = division_line(s, here, k + 1, agents, items)?;
+    for k in 0..sheet.agents {
+        let (line, next) = division_line(s, here, k + 1, sheet)?;
         lines[k] = line;
         here = next;
     }

@@ -14,15 +14,15 @@ use Rattle.division_reading.proofs.Suffixes.{division_lines-leave}
 use Rattle.division_reading.proofs.Shape.{grade_below}
 use Rattle.division_reading.proofs.kept.Division.{too-many-agents, too-many-items, reading_division-text}
 use Rattle.division_reading.proofs.read_division.Goals as goal
-use Rattle.division_reading.proofs.read_division.Goals.{then-agents-gt-AGENTS-via-then-agents-gt-AGENTS, then-agents-gt-AGENTS-via-else-agents-gt-AGENTS+then-items-gt-ITEMS}
+use Rattle.division_reading.proofs.read_division.Goals.{then-sheet-gt-AGENTS-via-then-sheet-gt-AGENTS, then-sheet-gt-AGENTS-via-else-sheet-gt-AGENTS+then-sheet-gt-ITEMS}
 
-pub returns-then-agents-gt-AGENTS : goal.returns-then-agents-gt-AGENTS
-returns-then-agents-gt-AGENTS c =
+pub returns-then-sheet-gt-AGENTS : goal.returns-then-sheet-gt-AGENTS
+returns-then-sheet-gt-AGENTS c =
     let a = c.args in
-    let none : reading_division a.agents a.items (tokens_at a.s.now a.c) ≡ None =
-    elim c.then-agents-gt-AGENTS.branch [
-      | then-agents-gt-AGENTS-via-then-agents-gt-AGENTS w ↦ too-many-agents _ _ _ w.if-agents-gt-AGENTS.true
-      | then-agents-gt-AGENTS-via-else-agents-gt-AGENTS+then-items-gt-ITEMS w ↦ too-many-items _ _ _ w.if-items-gt-ITEMS.true
+    let none : reading_division a.sheet.agents a.sheet.items (tokens_at a.s.now a.c) ≡ None =
+    elim c.then-sheet-gt-AGENTS.branch [
+      | then-sheet-gt-AGENTS-via-then-sheet-gt-AGENTS w ↦ too-many-agents _ _ _ w.if-sheet-gt-AGENTS.true
+      | then-sheet-gt-AGENTS-via-else-sheet-gt-AGENTS+then-sheet-gt-ITEMS w ↦ too-many-items _ _ _ w.if-sheet-gt-ITEMS.true
     ] in
     ap kept (sym none)
 
@@ -30,16 +30,16 @@ pub returns-in_err-grade : goal.returns-in_err-grade
 unfolding division_text
 returns-in_err-grade c =
     let a = c.args in
-    let few : a.agents ≤ most_agents = omega arith in
-    let few_items : a.items ≤ most_items = omega arith in
+    let few : a.sheet.agents ≤ most_agents = omega arith in
+    let few_items : a.sheet.items ≤ most_items = omega arith in
     rw (reading_division-text _ _ _ few few_items, found-none _ _ _ _ c.in_err-grade.ensures) c.from_residual.ensures
 
 pub returns-in_err-lines : goal.returns-in_err-lines
 unfolding division_text
 returns-in_err-lines c =
     let a = c.args in
-    let few : a.agents ≤ most_agents = omega arith in
-    let few_items : a.items ≤ most_items = omega arith in
+    let few : a.sheet.agents ≤ most_agents = omega arith in
+    let few_items : a.sheet.items ≤ most_items = omega arith in
     let head = division_head-read _ _ _ _ c.in_ok-grade.ensures in
     rw (reading_division-text _ _ _ few few_items, head.read, found-none _ _ _ _ c.in_err-lines.ensures) c.from_residual-in_err-lines.ensures
 
@@ -47,8 +47,8 @@ pub returns-in_err-_end : goal.returns-in_err-_end
 unfolding division_text
 returns-in_err-_end c =
     let a = c.args in
-    let few : a.agents ≤ most_agents = omega arith in
-    let few_items : a.items ≤ most_items = omega arith in
+    let few : a.sheet.agents ≤ most_agents = omega arith in
+    let few_items : a.sheet.items ≤ most_items = omega arith in
     let head = division_head-read _ _ _ _ c.in_ok-grade.ensures in
     let lines = found-to _ _ _ _ (division_lines-leave _ _ _) c.in_ok-lines.ensures in
     rw (reading_division-text _ _ _ few few_items, head.read, lines.to.read, place-none _ _ _ c.in_err-_end.ensures) c.from_residual-in_err-_end.ensures
@@ -57,15 +57,15 @@ pub overflow_cast-result : goal.overflow_cast-result
 overflow_cast-result c =
     let a = c.args in
     let head = division_head-read _ _ _ _ c.in_ok-grade.ensures in
-    let small = rw head.read at (grade_below a.agents a.items (tokens_at a.s.now a.c)) in
+    let small = rw head.read at (grade_below a.sheet.agents a.sheet.items (tokens_at a.s.now a.c)) in
     omega (arith, small)
 
 pub returns : goal.returns
 unfolding division_text
 returns c =
     let a = c.args in
-    let few : a.agents ≤ most_agents = omega arith in
-    let few_items : a.items ≤ most_items = omega arith in
+    let few : a.sheet.agents ≤ most_agents = omega arith in
+    let few_items : a.sheet.items ≤ most_items = omega arith in
     let head = division_head-read _ _ _ _ c.in_ok-grade.ensures in
     let lines = found-to _ _ _ _ (division_lines-leave _ _ _) c.in_ok-lines.ensures in
     let end = place-to _ _ _ (end_line-leaves _ _) c.in_ok-_end.ensures in

@@ -16,13 +16,13 @@ loop-k-init c = (refl, reached-here, no-bundle-gathered _ _ _ _ _ c.requires.age
 
 pub returns-in_err-set : goal.returns-in_err-set
 returns-in_err-set c =
-    let few : min c.args.items most_items ≡ c.args.items = omega arith in
+    let few : min c.args.sheet.items most_items ≡ c.args.sheet.items = omega arith in
     let missed = found-none _ _ _ _ (rw few at c.in_err-set.ensures) in
     c.from_residual.ensures ∙ next-missed _ _ _ _ _ _ _ _ c.loop-k-test.true missed ∙ sym c.loop-k.invariant.2
 
 pub loop-k-preserved : goal.loop-k-preserved
 loop-k-preserved c =
-    let few : min c.args.items most_items ≡ c.args.items = omega arith in
+    let few : min c.args.sheet.items most_items ≡ c.args.sheet.items = omega arith in
     let bundle = bundle_after-read _ _ _ _ (rw few at c.in_ok-set.ensures) in (
       simp length-set c.loop-k.invariant.0,
       reached_then c.loop-k.invariant.1 bundle.to.reached,
