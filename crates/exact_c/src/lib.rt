@@ -19,17 +19,14 @@ pub extern "C" fn exact_table(
 ) -> u8
     ensures { TableStored (sheet_of agents items table.now) found.old bundles.old result found.new bundles.new }
 {
-    let outcome = exact_search::find_exact(*table, Sheet { agents, items });
-    let answer = outcome.answer;
-    let sets = outcome.bundles;
-    match answer {
-        exact_search::Answer::Refused(number) => number,
-        exact_search::Answer::None => {
+    match exact_search::find_exact(*table, Sheet { agents, items }) {
+        Err(refusal) => refusal.number(),
+        Ok(None) => {
             *found = 0;
-            *bundles = sets;
+            *bundles = [0; Sheet::AGENTS];
             0
         }
-        exact_search::Answer::Found => {
+        Ok(Some(sets)) => {
             *found = 1;
             *bundles = sets;
             0
