@@ -75,6 +75,7 @@ impl Request<'_> {
     {
         let ceiling = self.mean();
         let end = find(self.values, self.bundles, ceiling, 0, self.allowance);
+        // By a variable: no proof is made where an array field goes straight into a literal.
         let partition = end.best.partition;
         Cutting {
             figure: Figure::Stopped(end.best.goal - 1),
@@ -99,6 +100,7 @@ impl Request<'_> {
         let ceiling = self.mean();
         let goal = deal(ordered, bundles) + 1;
         let end = find_after(ordered, values, bundles, ceiling, goal, allowance);
+        // By a variable: no proof is made where an array field goes straight into a literal.
         let partition = end.best.partition;
         Cutting {
             figure: Figure::Share(end.best.goal - 1),

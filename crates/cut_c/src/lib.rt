@@ -32,6 +32,7 @@ pub extern "C" fn cut_row(
 {
     match cut::cut(*marks, set, bundles, allowance) {
         Ok(found) => {
+            // By a variable: no proof is made where an array field is stored straight.
             let reached = found.partition;
             *partition = reached;
             *count = found.count;
