@@ -1,5 +1,5 @@
 // What an agent (yard) can keep of each set of items (pieces) at the most, where it leaves the rest to those before.
-ghost use Rattle.std.specs.Prelude.{◌≡◌, ◌+◌, ◌≤◌, ◌^◌, max};
+ghost use Rattle.std.specs.Prelude.{◌≡◌, ◌+◌, ◌≤◌, ◌^◌};
 ghost use Rattle.sheet.specs.Limits.{most_items};
 ghost use Rattle.exact_levels.specs.internal.Keeping.{AllSets, greatest_kept, bonus_if, Started, CanKeep, BlockKept, CanKeepItem, ItemKept, MostKept};
 
@@ -12,19 +12,12 @@ pub(crate) const SERVED: u64 = 1 << 40;
 // For each set of items, the most that is kept of it, with `SERVED` more where those before can be served.
 pub(crate) type Kept = [u64; SETS];
 
-// The greater of two sums.
-fn greater(a: u64, b: u64) -> u64
-    ensures { result ≡ max a b }
-{
-    if a < b { b } else { a }
-}
-
 // A sum with one mark more.
 fn with_mark(sum: u64, mark: Mark) -> u64
     requires { sum ≤ greatest_kept }
     ensures { result ≡ sum + mark }
 {
-    sum + mark as u64
+    sum + u64::from(mark)
 }
 
 // What is added for a set that is left to those before.
@@ -40,10 +33,8 @@ fn start(levels: &Levels, before: u8, sets: usize) -> Kept
     ensures { Started levels.now before sets result }
 {
     let mut kept: Kept = [0; SETS];
-    let mut set: usize = 0;
-    while set < sets {
+    for set in 0..sets {
         kept[set] = bonus(levels[set], before);
-        set += 1;
     }
     kept
 }
@@ -54,11 +45,9 @@ fn keep_in_block(kept: &mut Kept, from: usize, bit: usize, mark: Mark)
     ensures { BlockKept kept.old from bit mark kept.new }
 {
     let behind = from + bit;
-    let mut i: usize = 0;
-    while i < bit {
+    for i in 0..bit {
         let with_item = with_mark(kept[from + i], mark);
-        kept[behind + i] = greater(kept[behind + i], with_item);
-        i += 1;
+        kept[behind + i] = kept[behind + i].max(with_item);
     }
 }
 
@@ -67,10 +56,8 @@ fn keep_item(kept: &mut Kept, bit: usize, mark: Mark, sets: usize)
     requires { CanKeepItem kept.old bit sets }
     ensures { ItemKept kept.old bit mark sets kept.new }
 {
-    let mut from: usize = 0;
-    while from < sets {
+    for from in (0..sets).step_by(2 * bit) {
         keep_in_block(kept, from, bit, mark);
-        from += 2 * bit;
     }
 }
 
@@ -86,12 +73,8 @@ pub(crate) fn keep_most(
     ensures { MostKept valuation levels.now before items sets result }
 {
     let mut kept = start(levels, before, sets);
-    let mut bit: usize = 1;
-    let mut i: usize = 0;
-    while i < items {
-        keep_item(&mut kept, bit, valuation[i], sets);
-        bit = 2 * bit;
-        i += 1;
+    for i in 0..items {
+        keep_item(&mut kept, 1 << i, valuation[i], sets);
     }
     kept
 }

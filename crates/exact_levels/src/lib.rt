@@ -9,7 +9,7 @@ ghost use Rattle.exact_levels.specs.internal.Keeping.{level_with, CanRaise, Rais
 use crate::keeping::{SERVED, keep_most};
 use sheet::amounts::Amounts;
 use sheet::naming::all_items;
-use sheet::{Row, Sheet, Table, lesser};
+use sheet::{Row, Sheet, Table};
 
 mod keeping;
 
@@ -24,13 +24,9 @@ fn level_with(level: u8, before: u8, share: u64, most: u64) -> u8
     requires { before < most_agents }
     ensures { result ≡ level_with level before share most }
 {
-    if most < SERVED {
-        return level;
-    }
-    if most - SERVED < share {
-        level
-    } else {
-        before + 1
+    match most.checked_sub(SERVED) {
+        Some(kept) if share <= kept => before + 1,
+        _ => level,
     }
 }
 
@@ -40,10 +36,8 @@ fn raise(valuation: Row, share: u64, levels: &mut Levels, before: u8, items: usi
     ensures { Raised valuation share levels.old before items sets levels.new }
 {
     let kept = keep_most(valuation, levels, before, items, sets);
-    let mut set: usize = 0;
-    while set < sets {
+    for set in 0..sets {
         levels[set] = level_with(levels[set], before, share, kept[set]);
-        set += 1;
     }
 }
 
@@ -51,16 +45,13 @@ fn raise(valuation: Row, share: u64, levels: &mut Levels, before: u8, items: usi
 pub fn rank(table: Table, shares: Amounts, agents: usize, items: usize) -> Levels
     ensures { result ≡ levels_of table shares (min agents most_agents) (min items most_items) }
 {
-    let last = lesser(agents, Sheet::AGENTS);
-    let counted = lesser(items, Sheet::ITEMS);
+    let last = agents.min(Sheet::AGENTS);
+    let counted = items.min(Sheet::ITEMS);
     let all = all_items(items);
     let sets = all as usize + 1;
     let mut levels: Levels = [0; SETS];
-    let mut i: usize = 0;
-    while i < last {
-        let valuation = table[i];
-        raise(valuation, shares[i], &mut levels, i as u8, counted, sets);
-        i += 1;
+    for i in 0..last {
+        raise(table[i], shares[i], &mut levels, i as u8, counted, sets);
     }
     levels
 }

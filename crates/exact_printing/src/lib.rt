@@ -5,9 +5,9 @@ ghost use Rattle.std.specs.Prelude.{◌≡◌, ◌≤◌, length};
 ghost use mathlib.Core.List.{flat_map};
 ghost use Rattle.lists.specs.Lists.{range};
 ghost use Rattle.sheet.specs.Limits.{most_agents};
-ghost use Rattle.sheet.specs.Answers.{after};
+ghost use Rattle.sheet.specs.Answers.{map_answer, after};
+ghost use Rattle.sheet.specs.Refusals.{answer_of};
 ghost use Rattle.sheet.specs.Contents.{contents};
-ghost use Rattle.writing.specs.Answered.{answered};
 ghost use Rattle.writing.specs.Filled.{filling, filled};
 ghost use Rattle.writing.specs.WithText.{Writes};
 ghost use Rattle.exact_printing.specs.Printing.{longest_exact, Printed};
@@ -15,8 +15,9 @@ ghost use Rattle.exact_printing.specs.internal.SetsText.{set_group, sets_text};
 
 use exact_search::find_exact;
 use sheet::naming::items_of;
+use sheet::refusal::Refusal;
 use sheet::{Sets, Sheet, Table};
-use writing::{Answer, Writer, fill};
+use writing::{Writer, fill};
 
 // A buffer of so many bytes is long enough for every sheet: (exact) and the line feed, a space and () for each agent, and at most three
 // bytes for each item.
@@ -45,9 +46,9 @@ fn put_exact(writer: &mut Writer, agents: usize, bundles: Sets)
 }
 
 // Prints the bundles of an exact division; refused with 10 where the buffer is shorter than the text.
-fn print_bundles(agents: usize, bundles: Sets, buffer: &mut [u8]) -> Answer
+fn print_bundles(agents: usize, bundles: Sets, buffer: &mut [u8]) -> Result<usize, Refusal>
     requires { (agents ≤ most_agents) × (length (sets_text agents bundles) ≤ longest_exact) }
-    ensures answer { result ≡ answered (filling (length buffer.old) (sets_text agents bundles)) }
+    ensures answer { answer_of result ≡ map_answer length (filling (length buffer.old) (sets_text agents bundles)) }
     ensures buffer { buffer.new ≡ after filled (filling (length buffer.old) (sets_text agents bundles)) buffer.old }
 {
     let mut text = [0u8; LONGEST];
@@ -58,17 +59,12 @@ fn print_bundles(agents: usize, bundles: Sets, buffer: &mut [u8]) -> Answer
 
 // Searches a sheet for an exact division and prints it, or the word none, from the front of the buffer. Refused
 // as by `find_exact`, else with 10 where the buffer is shorter than the text; then the buffer keeps all its bytes.
-pub fn print_exact(table: Table, sheet: Sheet, buffer: &mut [u8]) -> Answer
-    ensures { Printed (contents sheet table) buffer.old result buffer.new }
+pub fn print_exact(table: Table, sheet: Sheet, buffer: &mut [u8]) -> Result<usize, Refusal>
+    ensures { Printed (contents sheet table) buffer.old (answer_of result) buffer.new }
 {
-    let outcome = find_exact(table, sheet);
-    let answer = outcome.answer;
-    match answer {
-        exact_search::Answer::Refused(number) => Answer::Refused(number),
-        exact_search::Answer::None => fill(b"(exact none)\n", buffer),
-        exact_search::Answer::Found => {
-            let bundles = outcome.bundles;
-            print_bundles(sheet.agents, bundles, buffer)
-        }
+    let exact = find_exact(table, sheet)?;
+    match exact {
+        Some(bundles) => print_bundles(sheet.agents, bundles, buffer),
+        None => fill(b"(exact none)\n", buffer),
     }
 }

@@ -14,13 +14,7 @@ fn may_leave(valuation: Row, share: u64, level: u8, before: u8, part: u16, set: 
     requires { part ≤ set }
     ensures { result ≡ may_leave valuation share level before part set }
 {
-    if level < before {
-        return false;
-    }
-    if !is_part(part, set) {
-        return false;
-    }
-    share <= value_of(valuation, set - part)
+    before <= level && is_part(part, set) && share <= value_of(valuation, set - part)
 }
 
 // The first part of a set that an agent may leave to those before it.
@@ -28,14 +22,9 @@ fn left_by(valuation: Row, share: u64, levels: &Levels, before: u8, set: u16) ->
     requires { set < 2 ^ most_items }
     ensures { FirstLeft valuation share levels.now before set result }
 {
-    let mut part: u16 = 0;
-    while part < set {
-        if may_leave(valuation, share, levels[part as usize], before, part, set) {
-            return part;
-        }
-        part += 1;
-    }
-    part
+    (0..set)
+        .find(|part| may_leave(valuation, share, levels[*part as usize], before, *part, set))
+        .unwrap_or(set)
 }
 
 // The bundles: each agent keeps what it does not leave to those before it, and the first keeps all that is left.
@@ -51,13 +40,10 @@ pub(crate) fn hand_out(
 {
     let mut bundles = [0u16; Sheet::AGENTS];
     let mut left = all;
-    let mut i = agents - 1;
-    while 0 < i {
-        let valuation = table[i];
-        let part = left_by(valuation, shares[i], levels, i as u8, left);
+    for i in (1..agents).rev() {
+        let part = left_by(table[i], shares[i], levels, i as u8, left);
         bundles[i] = left - part;
         left = part;
-        i -= 1;
     }
     bundles[0] = left;
     bundles

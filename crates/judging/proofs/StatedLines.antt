@@ -19,7 +19,7 @@ use Rattle.sheet.specs.Valuations.{value}
 use Rattle.sheet.specs.Contents.{Contents, valuations_of}
 use Rattle.sheet.proofs.valuing.Tables.{valuation_of-profile}
 use Rattle.shares.specs.Known.{SharesIn}
-use Rattle.shares.proofs.Outcomes.{nth-shares-in}
+use Rattle.shares.proofs.Answered.{nth-shares-in}
 use Rattle.terms.specs.declared.Terms.{Terms}
 use Rattle.grades.specs.Grade.{value_to, own_values}
 use Rattle.grades.specs.Scale.{grade_by_terms}

@@ -1,2 +1,2 @@
--- What judging a division of a table answers in code; what that means stands in `stated_truth`.
-pub mod Outcome
+-- How the code has the margins of a division that is accepted; what judging a division means stands in `stated_truth`.
+pub mod Stored

@@ -1,5 +1,6 @@
 -- Members of a list: tested, counted, mapped, in another order, and none of them twice.
 pub mod Each
+pub mod Chains
 pub mod Counting
 pub mod Congruence
 pub mod Distinct

@@ -8,15 +8,15 @@ ghost use Rattle.sheet.specs.Limits.{most_agents, most_items};
 ghost use Rattle.writing.specs.WithText.{Writes};
 ghost use Rattle.printed_division.specs.OutcomeText.{outcome_line, outcome_text};
 
-use division::Outcome;
+use division::Division;
 use printed_lines::{put_cutters, put_head, put_yard};
 use sheet::Sheet;
 use writing::Writer;
 
 // The lines of all agents.
-fn put_yards(writer: &mut Writer, agents: usize, items: usize, outcome: Outcome)
+fn put_yards(writer: &mut Writer, agents: usize, items: usize, division: Division)
     requires { (agents ≤ most_agents) × (items ≤ most_items) }
-    ensures { Writes writer.old (flat_map (outcome_line agents items outcome.bundles outcome.worths outcome.shares outcome.cuts) (range 1 agents)) writer.new }
+    ensures { Writes writer.old (flat_map (outcome_line agents items division.bundles division.worths division.shares division.cuts) (range 1 agents)) writer.new }
 {
     for i in 0..agents {
         put_yard(
@@ -24,22 +24,22 @@ fn put_yards(writer: &mut Writer, agents: usize, items: usize, outcome: Outcome)
             agents,
             items,
             i + 1,
-            outcome.bundles[i],
-            outcome.worths[i],
-            outcome.shares[i],
-            outcome.cuts[i].partition,
+            division.bundles[i],
+            division.worths[i],
+            division.shares[i],
+            division.cuts[i],
         );
     }
 }
 
-// The whole text of an outcome, for these counts; counts beyond the limits are cut to them.
-pub fn put_division(writer: &mut Writer, agents: usize, items: usize, outcome: Outcome)
-    ensures { Writes writer.old (outcome_text (min agents most_agents) (min items most_items) outcome) writer.new }
+// The whole text of a division, for these counts; counts beyond the limits are cut to them.
+pub fn put_division(writer: &mut Writer, agents: usize, items: usize, division: Division)
+    ensures { Writes writer.old (outcome_text (min agents most_agents) (min items most_items) division) writer.new }
 {
     let yards = agents.min(Sheet::AGENTS);
     let pieces = items.min(Sheet::ITEMS);
-    put_head(writer, yards, pieces, outcome.grade);
-    put_yards(writer, yards, pieces, outcome);
-    put_cutters(writer, outcome.cutters);
+    put_head(writer, yards, pieces, division.grade);
+    put_yards(writer, yards, pieces, division);
+    put_cutters(writer, division.cutters);
     writer.bytes(b"(end)\n");
 }

@@ -4,23 +4,14 @@
 
 use printing::LONGEST;
 use reply::reply;
-use sheet::{Sheet, lesser};
+use sheet::Sheet;
+use sheet::refusal::Refusal;
 use std::fs::{File, Files};
 use std::io::Read;
 use std::{env, io};
-use writing::Answer;
 
 // Room for a text that is seen to be too long.
 const ROOM: usize = Sheet::LONGEST_TEXT + 1;
-
-// A program that takes a text and prints an answer.
-#[derive(Clone, Copy)]
-enum Program {
-    Shareout,
-    Strict,
-    Exact,
-    Judge,
-}
 
 fn main(rt: HostRuntime) -> io::Result<()> {
     for path in env::args(&rt)?.skip(1) {
@@ -50,49 +41,52 @@ fn show_content(rt: &impl Print, file: &mut impl Read) -> io::Result<()> {
 // What each program prints for a text, behind the program's name.
 fn show_answers(rt: &impl Print, text: &[u8]) -> io::Result<()> {
     print(rt, b"shareout: ")?;
-    show(rt, Program::Shareout, text)?;
+    show(rt, sheet_to_division::share_out_standard, text)?;
     print(rt, b"strict: ")?;
-    show(rt, Program::Strict, text)?;
+    show(rt, sheet_to_strict::write_strict, text)?;
     print(rt, b"exact: ")?;
-    show(rt, Program::Exact, text)?;
+    show(rt, sheet_to_exact::show_exact, text)?;
     print(rt, b"judge: ")?;
-    show(rt, Program::Judge, text)
+    show(rt, sheet_to_judgement::judge_division, text)
 }
 
-// What a program prints for a text.
-fn show(rt: &impl Print, program: Program, text: &[u8]) -> io::Result<()> {
+// What the program of an entry prints for a text.
+fn show<E: Fn(&[u8], &mut [u8]) -> Result<usize, Refusal>>(
+    rt: &impl Print,
+    entry: E,
+    text: &[u8],
+) -> io::Result<()>
+    requires { E.IsAlwaysCallable entry }
+{
     let mut buffer = [0u8; LONGEST];
-    let answer = answer_of(program, text, &mut buffer);
+    let answer = entry(text, &mut buffer);
     let length = reply(answer, &mut buffer);
     print(rt, &buffer[..length])?;
     match answer {
-        Answer::Refused(_) => Ok(()),
-        Answer::Written(written) => show_shorter(rt, program, text, written),
+        Ok(written) => show_shorter(rt, entry, text, written),
+        Err(_) => Ok(()),
     }
 }
 
-// What a program prints where its buffer is one byte shorter than the text that it writes.
-fn show_shorter(rt: &impl Print, program: Program, text: &[u8], written: usize) -> io::Result<()> {
+// What it prints where its buffer is one byte shorter than the text that it writes.
+fn show_shorter<E: Fn(&[u8], &mut [u8]) -> Result<usize, Refusal>>(
+    rt: &impl Print,
+    entry: E,
+    text: &[u8],
+    written: usize,
+) -> io::Result<()>
+    requires { E.IsAlwaysCallable entry }
+{
     if written == 0 {
         return Ok(());
     }
-    let shorter = lesser(written - 1, LONGEST);
+    let shorter = (written - 1).min(LONGEST);
     print!(rt; "in {shorter} bytes: ")?;
     let mut buffer = [0u8; LONGEST];
-    let answer = answer_of(program, text, &mut buffer[..shorter]);
+    let answer = entry(text, &mut buffer[..shorter]);
     let mut line = [0u8; LONGEST];
     let length = reply(answer, &mut line);
     print(rt, &line[..length])
-}
-
-// What the entry of a program answers.
-fn answer_of(program: Program, text: &[u8], buffer: &mut [u8]) -> Answer {
-    match program {
-        Program::Shareout => sheet_to_division::share_out_standard(text, buffer),
-        Program::Strict => sheet_to_strict::write_strict(text, buffer),
-        Program::Exact => sheet_to_exact::show_exact(text, buffer),
-        Program::Judge => sheet_to_judgement::judge_division(text, buffer),
-    }
 }
 
 fn print(rt: &impl Print, bytes: &[u8]) -> io::Result<()> {

@@ -9,21 +9,16 @@ ghost use Rattle.stated_truth.specs.Lines.{stated_line, least_to, line_true_to, 
 use division_reading::StatedLine;
 use grade_amounts::value_in_use;
 use sheet::amounts::Amounts;
-use sheet::{Row, Sets, Sheet, Table, lesser};
+use sheet::{Row, Sets, Sheet, Table};
 
 // Whether no bundle of a cut is worth less than the share.
 fn cut_reaches(valuation: Row, agents: usize, items: usize, cut: Sets, share: u64) -> bool
     requires { InUse agents items }
     ensures { result ≡ leb share (least_to agents items valuation (map items_of (take agents cut))) }
 {
-    let mut i: usize = 0;
-    while i < agents {
-        if value_in_use(valuation, cut[i], items) < share {
-            return false;
-        }
-        i += 1;
-    }
-    true
+    cut[..agents]
+        .iter()
+        .all(|bundle| value_in_use(valuation, *bundle, items) >= share)
 }
 
 // Whether the line of an agent with this valuation, this share and a bundle of this worth is true.
@@ -38,14 +33,9 @@ fn line_true(
     requires { InUse agents items }
     ensures { result ≡ line_true_to agents items valuation share worth (stated_line agents line) }
 {
-    if line.worth != worth {
-        return false;
-    }
-    if line.share != share {
-        return false;
-    }
-    let cut = line.cut;
-    cut_reaches(valuation, agents, items, cut, share)
+    line.worth == worth
+        && line.share == share
+        && cut_reaches(valuation, agents, items, line.cut, share)
 }
 
 // Whether the lines of the first `agents` agents are true, by the table, their shares and the worths of their bundles.
@@ -60,16 +50,7 @@ fn lines_true(
     requires { (agents ≤ most_agents) × (items ≤ most_items) }
     ensures { result ≡ lines_true agents items table shares worths lines }
 {
-    let mut i: usize = 0;
-    while i < agents {
-        let valuation = table[i];
-        let line = lines[i];
-        if !line_true(valuation, agents, items, shares[i], worths[i], line) {
-            return false;
-        }
-        i += 1;
-    }
-    true
+    (0..agents).all(|i| line_true(table[i], agents, items, shares[i], worths[i], lines[i]))
 }
 
 // Whether all lines are true, and the grade that is stated is the grade; both counts are cut to the limits of a sheet.
@@ -85,10 +66,7 @@ pub fn figures_true(
 ) -> bool
     ensures { result ≡ figures_true_by (min agents most_agents) (min items most_items) table shares worths lines grade stated }
 {
-    let last = lesser(agents, Sheet::AGENTS);
-    let counted = lesser(items, Sheet::ITEMS);
-    if !lines_true(table, last, counted, shares, worths, lines) {
-        return false;
-    }
-    stated == grade
+    let last = agents.min(Sheet::AGENTS);
+    let counted = items.min(Sheet::ITEMS);
+    lines_true(table, last, counted, shares, worths, lines) && stated == grade
 }

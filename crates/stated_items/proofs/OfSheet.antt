@@ -1,19 +1,17 @@
--- Whether a set names items of the sheet only, by its size, and whether several sets do, place by place. Assumes nothing.
-use mathlib.Core.Path.{◌≡◌, refl, sym, ap, ◌∙◌}
+-- Whether a set names items of the sheet only, by its size, and whether several sets do. Assumes nothing.
+use mathlib.Core.Path.{◌≡◌, refl, sym, ap, ap₂, ◌∙◌}
 use mathlib.Core.Bool.{Bool, true, false, ◌&&◌, true≢false}
-use mathlib.Core.List.{List, map}
-use Prim.Native.Nat.{ℕ, ◌-◌, ◌^◌, ◌≤◌, ◌<◌}
+use mathlib.Core.List.{List, [], ◌∷◌, map}
+use Prim.Native.Nat.{ℕ, suc, ◌^◌, ◌≤◌, ◌<◌}
 use native.Mathlib.Omega.{arith}
 use lib.Dec.{leb}
-use lib.ListN.{length, take, length-map, length-take, get_or-map}
-use lib.Seq.{get_or-take}
+use lib.ListN.{length, get_or, length-map}
 use borrow.Author.Tests.{eq-eqb, le-leb, leb-true, leb-false}
-use Rattle.lists.specs.Lists.{range, nth, all}
+use Rattle.lists.specs.Lists.{range, all}
 use Rattle.lists.proofs.ranges.Ranges.{range-bounds}
 use Rattle.lists.proofs.members.Counting.{mem-all, sublist-mem}
 use Rattle.lists.proofs.members.Each.{all_weaker}
-use Rattle.lists.proofs.members.Tests.{all-cong, all-nth}
-use Rattle.sheet.specs.Limits.{most_agents, set_bits, within}
+use Rattle.sheet.specs.Limits.{set_bits, within}
 use Rattle.sheet.specs.Sets.{items_of, set_of}
 use Rattle.sheet.proofs.Limits.{within_both, within-bounds}
 use Rattle.sheet.proofs.sets.Items.{items-sublist}
@@ -36,15 +34,13 @@ names-items-test set m few wide = step (leb set (set_of (range 1 m))) refl
     step true e = let le = leb-true set (set_of (range 1 m)) e in sym (below (omega (arith, le, set_of-up_to m)))
     step false e = let lt = leb-false set (set_of (range 1 m)) e in above (omega (arith, lt, set_of-up_to m)) (all (within m) (items_of set)) refl
 
--- the first n sets of as many places as a sheet has agents
-pub of-sheet-places : (n m : ℕ) (sets : List ℕ) → length sets ≡ most_agents → n ≤ most_agents
-    → of_sheet n m (map items_of (take n sets)) ≡ all (λ i. all (within m) (items_of (nth 0 sets i))) (range 1 n)
+-- several sets name items of the sheet only, set after set
+pub of-sheet-each : (m : ℕ) (sets : List ℕ) → m ≤ set_bits → ((i : ℕ) → get_or sets i 0 < 2 ^ set_bits)
+    → all (λ set. leb set (set_of (range 1 m))) sets ≡ of_sheet (length sets) m (map items_of sets)
 unfolding of_sheet
-of-sheet-places n m sets places few =
-    let first = map items_of (take n sets) in
-    let each : length first ≡ n = length-map (take n sets) items_of ∙ length-take n sets ∙ omega arith in
-    ap (λ b. b && all (all (within m)) first) (eq-eqb (length first) n each)
-    ∙ all-nth (all (within m)) (items_of 0) first n each
-    ∙ all-cong _ _ (range 1 n) (λ i mi.
-    let b = range-bounds 1 n mi in
-    ap (all (within m)) (get_or-map items_of (take n sets) (i - 1) 0 ∙ ap items_of (get_or-take n sets (i - 1) 0 (omega arith))))
+of-sheet-each m sets few wide =
+    each sets wide ∙ sym (ap (λ b. b && all (all (within m)) (map items_of sets)) (eq-eqb (length (map items_of sets)) (length sets) (length-map sets items_of)))
+  where
+    each : (sets : List ℕ) → ((i : ℕ) → get_or sets i 0 < 2 ^ set_bits) → all (λ set. leb set (set_of (range 1 m))) sets ≡ all (all (within m)) (map items_of sets)
+    each [] wide = refl
+    each (x ∷ xs) wide = ap₂ ◌&&◌ (names-items-test x m few (wide 0)) (each xs (λ i. wide (suc i)))

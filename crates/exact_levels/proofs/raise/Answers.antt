@@ -1,4 +1,4 @@
-use mathlib.Core.Path.{◌≡◌, refl, ap, ◌∙◌}
+use mathlib.Core.Path.{◌≡◌, ap, ◌∙◌}
 use Prim.Native.Nat.{◌^◌, ◌≤◌}
 use native.Mathlib.Omega.{arith}
 use lib.ListN.{get_or, length-set}
@@ -16,12 +16,6 @@ use Rattle.exact_levels.proofs.raise.Goals as goal
 few : (c : Start) → c.args.sets ≤ 2 ^ most_items
 few c = few-sets c.args.valuation c.args.levels.now c.args.before c.args.items c.args.sets c.requires.all_sets
 
-pub keep_most-kept-requires : goal.keep_most-kept-requires
-keep_most-kept-requires c = c.requires.all_sets
-
-pub loop-set-init : goal.loop-set-init
-loop-set-init c = record { within = omega arith; places = refl; done = λ s lt. absurd (omega arith); same = λ s le. refl }
-
 pub bounds-levels-set : goal.bounds-levels-set
 bounds-levels-set c = omega (arith, few (goal.at.bounds-levels-set c).Start, c.requires.places)
 
@@ -37,7 +31,6 @@ loop-set-preserved c =
     let l = c.loop-set in
     let v = c.level_with in
     record {
-      within = omega arith;
       places = simp length-set l.invariant.places;
       done = stored-each (λ k x. x ≡ level_with (get_or a.levels.now k 0) a.before a.share (get_or c.keep_most-kept.result k 0)) 0 l.levels l.set v.result
           (omega (arith, l.invariant.places, c.requires.places, few (goal.at.loop-set-preserved c).Start)) l.invariant.done
@@ -53,5 +46,5 @@ returns c =
       places = l.invariant.places;
       light = value-set-small c.args.valuation (marks-small most_items c.args.valuation _ c.well_formed.0);
       each = λ set lt. record { most = get_or m.result set 0; is_most = m.ensures set lt; raised = l.invariant.done set (omega arith) };
-      behind = λ set le. l.invariant.same set (omega (arith, l.invariant.within));
+      behind = λ set le. l.invariant.same set (omega (arith, l.auto.set-end));
     }

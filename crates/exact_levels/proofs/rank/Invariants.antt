@@ -1,7 +1,7 @@
 -- The loop's invariant: the levels tell how many of the first i agents can be served.
 use mathlib.Core.Path.{◌≡◌}
 use mathlib.Core.List.{List}
-use Prim.Native.Nat.{ℕ, ◌+◌, ◌-◌, ◌^◌, ◌≤◌}
+use Prim.Native.Nat.{ℕ, ◌+◌, ◌^◌, ◌≤◌}
 use lib.ListN.{length, get_or}
 use Rattle.sheet.specs.Limits.{most_agents, most_items}
 use Rattle.exact_levels.specs.ServedSets.{Ranked}
@@ -9,7 +9,6 @@ use Rattle.exact_levels.specs.internal.Keeping.{AllSets}
 use Rattle.exact_levels.proofs.rank.Given as goal
 
 pub record Ranking (table : List (List ℕ)) (shares : List ℕ) (last counted all sets : ℕ) (levels : List ℕ) (i : ℕ) : Type 0 where
-  pub within : i ≤ last
   pub few : last ≤ most_agents
   pub all_sets : AllSets counted sets
   pub up_to : sets ≡ all + 1
@@ -19,6 +18,3 @@ pub record Ranking (table : List (List ℕ)) (shares : List ℕ) (last counted a
 
 abbrev pub invariant-loop-i : goal.invariant-loop-i
 invariant-loop-i l = Ranking l.table l.shares l.last l.counted l.all l.sets l.levels l.i
-
-abbrev pub decreases-loop-i : goal.decreases-loop-i
-decreases-loop-i l = l.last - l.i

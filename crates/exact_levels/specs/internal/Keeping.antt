@@ -67,6 +67,7 @@ pub record BlockKept (old : List ℕ) (from bit mark : ℕ) (new : List ℕ) : T
 pub record CanKeepItem (kept : List ℕ) (bit sets : ℕ) : Type 0 where
   pub places : length kept ≡ 2 ^ most_items
   pub some : 1 ≤ bit
+  pub some_sets : 1 ≤ sets
   pub within : sets ≤ 2 ^ most_items
   pub blocks : ℕ
   pub all : sets ≡ blocks * (2 * bit)

@@ -4,26 +4,21 @@ use mathlib.Core.List.{List, [], map, Memᴰ as Mem}
 use Rattle.std.specs.Prelude.{Option, None, Some}
 use Prim.Native.Nat.{ℕ, min}
 use native.Mathlib.Omega.{arith}
-use borrow.Author.Rules.{rules}
 use lib.IntN.{ℤ, pos}
 use Rattle.lists.specs.Lists.{range, nth, padded}
 use Rattle.sheet.specs.Limits.{most_agents, most_items}
 use Rattle.sheet.specs.Contents.{Contents, contents}
 use Rattle.sheet.specs.Sets.{items_of}
-use Rattle.sheet.specs.Answers.{Answer, refused, require_some}
+use Rattle.sheet.specs.Answers.{Answer, refused, accepted, require_some, map_answer}
 use Rattle.grades.specs.Scale.{margins_by_terms, grade_by_terms, assessment_by_terms}
 use Rattle.grades.proofs.InPlaces.{assessment_in-by-terms}
 use Rattle.grading.specs.Assessed.{assessed}
 use Rattle.division_reading.specs.Stated.{Stated}
-use Rattle.stated_items.specs.Tests.{test_of}
-use Rattle.stated_items.specs.declared.Test.{Test}
-use Rattle.stated_items.specs.declared.Test.TheVariants.{OfSheet, EachInOne}
 use Rattle.stated_truth.specs.Truth.{bundles_of, bundles_and_cuts, of_sheet, each_in_one, figures_true}
 use Rattle.stated_truth.specs.Lines.{stated_of, stated_in, sets_and_cuts, figures_true_by}
 use Rattle.stated_truth.specs.Judging.{judging_by, judging_read}
 use Rattle.stated_truth.proofs.Verdicts.{judging-within, judged-off-sheet, judged-not-once, judged-false, judged-true}
-use Rattle.judging.specs.Outcome.{outcome}
-use Rattle.judging.specs.declared.Answer.TheVariants.{Accepted}
+use Rattle.judging.specs.Stored.{stored}
 use Rattle.judging.proofs.StatedLines.{nth-bundle, test-stated, figures-stated}
 use Rattle.judging.proofs.judge_shared.Goals as goal
 use Rattle.judging.proofs.judge_shared.Goals.{After-figures_true-correct}
@@ -34,11 +29,11 @@ sheet_in s = contents s.args.sheet s.args.table
 
 -- what is stated of it, as it is handed over
 abbrev stated_at : After-figures_true-correct → Option Stated
-stated_at s = stated_in s.args.sheet.agents s.args.stated
+stated_at s = stated_in s.args.sheet.agents s.args.division
 
 -- what the lines state
 abbrev division : After-figures_true-correct → Stated
-division c = let a = c.args in stated_of a.sheet.agents a.stated.grade a.stated.lines
+division c = let a = c.args in stated_of a.sheet.agents a.division.grade a.division.lines
 
 -- the answer on it
 abbrev answer : After-figures_true-correct → Answer (List ℤ)
@@ -48,7 +43,7 @@ answer c = judging_read (sheet_in c) c.args.terms (division c)
 same-items : (c : After-figures_true-correct) (i : ℕ) → Mem i (range 1 c.args.sheet.agents) → nth [] (map items_of c.bundles_of-bundles.result) i ≡ nth [] (bundles_of (division c)) i
 same-items c i mi =
     let a = c.args in
-    ap (λ sets. nth [] (map items_of sets) i) c.bundles_of-bundles.ensures.0 ∙ nth-bundle a.sheet.agents a.stated.grade a.stated.lines mi
+    ap (λ sets. nth [] (map items_of sets) i) c.bundles_of-bundles.ensures.each ∙ nth-bundle a.sheet.agents a.division.grade a.division.lines mi
 
 -- what the division comes to
 assessed-told : (c : After-figures_true-correct) → c.assess-assessed.result ≡ assessed (assessment_by_terms (sheet_in c) c.args.terms (bundles_of (division c)))
@@ -72,96 +67,95 @@ agents-kept c = omega (arith, c.requires.0.counts.few)
 items_kept : (c : After-figures_true-correct) → let m = c.args.sheet.items in m ≡ min m most_items
 items_kept c = omega (arith, c.requires.0.counts.few_items)
 
--- a test of the bundles and the cuts
-test-told : (c : After-figures_true-correct) (test : Test)
+-- a test of the bundles and the cuts, for the counts of the sheet
+test-told : (c : After-figures_true-correct) (test : ℕ → ℕ → List (List ℕ) → Bool)
     → let a = c.args in
     let n = a.sheet.agents in
     let m = a.sheet.items in
-    bundles_and_cuts (test_of test n m) (division c) ≡ sets_and_cuts (min n most_agents) (test_of test (min n most_agents) (min m most_items)) c.bundles_of-bundles.result a.stated.lines
+    bundles_and_cuts (test n m) (division c) ≡ sets_and_cuts (min n most_agents) (test (min n most_agents) (min m most_items)) c.bundles_of-bundles.result a.division.lines
 test-told c test =
     let a = c.args in
     let n = a.sheet.agents in
     let m = a.sheet.items in
-    test-stated n a.stated.grade a.stated.lines c.requires.0.counts.few c.bundles_of-bundles.ensures.1 (test_of test n m)
-    ∙ ap (λ sets. sets_and_cuts n (test_of test n m) sets a.stated.lines) (sym c.bundles_of-bundles.ensures.0)
-    ∙ ap₂ (λ n m. sets_and_cuts n (test_of test n m) c.bundles_of-bundles.result a.stated.lines) (agents-kept c) (items_kept c)
+    test-stated n a.division.grade a.division.lines c.requires.0.counts.few c.bundles_of-bundles.ensures.places (test n m)
+    ∙ ap (λ sets. sets_and_cuts n (test n m) sets a.division.lines) (sym c.bundles_of-bundles.ensures.each)
+    ∙ ap₂ (λ n m. sets_and_cuts n (test n m) c.bundles_of-bundles.result a.division.lines) (agents-kept c) (items_kept c)
 
 -- the second test of refusal 11
 abbrev of_this_sheet : After-figures_true-correct → Bool
 of_this_sheet c = let a = c.args in bundles_and_cuts (of_sheet a.sheet.agents a.sheet.items) (division c)
 
-of-sheet-told : (c : After-figures_true-correct) → of_this_sheet c ≡ c.all_pass-named.result
-of-sheet-told c = test-told c OfSheet ∙ sym c.all_pass-named.ensures
+of-sheet-told : (c : After-figures_true-correct) → of_this_sheet c ≡ c.all_of_sheet-named.result
+of-sheet-told c = test-told c of_sheet ∙ sym c.all_of_sheet-named.ensures
 
 -- the test of refusal 12
-in-one-told : (c : After-figures_true-correct) → bundles_and_cuts (each_in_one c.args.sheet.items) (division c) ≡ c.all_pass-once.result
-in-one-told c = test-told c EachInOne ∙ sym c.all_pass-once.ensures
+in-one-told : (c : After-figures_true-correct) → bundles_and_cuts (each_in_one c.args.sheet.items) (division c) ≡ c.all_in_one-once.result
+in-one-told c = test-told c (λ n. each_in_one) ∙ sym c.all_in_one-once.ensures
 
 -- the test of refusal 13
 figures-told : (c : After-figures_true-correct) → figures_true (sheet_in c) c.args.terms (division c) ≡ c.figures_true-correct.result
 figures-told c =
     let a = c.args in
-    figures-stated (sheet_in c) c.requires.0 a.stated.grade a.stated.lines c.bundles_of-bundles.ensures.1 (ap (λ r. r.worths) (assessed-told c)) a.terms c.assess-assessed.result.grade (grade-told c)
-    ∙ ap₂ (λ n m. figures_true_by n m a.table a.shares c.assess-assessed.result.worths a.stated.lines c.assess-assessed.result.grade a.stated.grade) (agents-kept c) (items_kept c)
+    figures-stated (sheet_in c) c.requires.0 a.division.grade a.division.lines c.bundles_of-bundles.ensures.places (ap (λ r. r.worths) (assessed-told c)) a.terms c.assess-assessed.result.grade (grade-told c)
+    ∙ ap₂ (λ n m. figures_true_by n m a.table a.shares c.assess-assessed.result.worths a.division.lines c.assess-assessed.result.grade a.division.grade) (agents-kept c) (items_kept c)
     ∙ sym c.figures_true-correct.ensures
 
 -- the answer on what is read, or on nothing
 answer-of : (c : After-figures_true-correct) (read : Bool)
-    → c.args.stated.read ≡ read
+    → c.args.division.read ≡ read
     → judging_by (sheet_in c) c.args.terms (stated_at c) ≡ require_some 11 (cond read (Some (division c)) None) (judging_read (sheet_in c) c.args.terms)
 answer-of c read e =
     judging-within (sheet_in c) c.args.terms (stated_at c) c.requires.0.counts
     ∙ ap (λ read. require_some 11 (cond read (Some (division c)) None) (judging_read (sheet_in c) c.args.terms)) e
 
 -- what is read, and whether it passes the second test of refusal 11
-both_told : (c : After-figures_true-correct) (laid_out : Bool) → laid_out ≡ c.args.stated.read && c.all_pass-named.result → laid_out ≡ c.args.stated.read && of_this_sheet c
-both_told c laid_out e = e ∙ ap (λ named. c.args.stated.read && named) (sym (of-sheet-told c))
+both_told : (c : After-figures_true-correct) (laid_out : Bool) → laid_out ≡ c.args.division.read && c.all_of_sheet-named.result → laid_out ≡ c.args.division.read && of_this_sheet c
+both_told c laid_out e = e ∙ ap (λ named. c.args.division.read && named) (sym (of-sheet-told c))
 
 -- where both hold, the answer is that on what is stated
-passed : (c : After-figures_true-correct) → true ≡ c.args.stated.read && c.all_pass-named.result → (c.args.stated.read ≡ true) × (of_this_sheet c ≡ true)
-passed c e = (and-eq-true_iff c.args.stated.read (of_this_sheet c)).0 (sym (both_told c true e))
+passed : (c : After-figures_true-correct) → true ≡ c.args.division.read && c.all_of_sheet-named.result → (c.args.division.read ≡ true) × (of_this_sheet c ≡ true)
+passed c e = (and-eq-true_iff c.args.division.read (of_this_sheet c)).0 (sym (both_told c true e))
 
-answer-read : (c : After-figures_true-correct) → true ≡ c.args.stated.read && c.all_pass-named.result → judging_by (sheet_in c) c.args.terms (stated_at c) ≡ answer c
+answer-read : (c : After-figures_true-correct) → true ≡ c.args.division.read && c.all_of_sheet-named.result → judging_by (sheet_in c) c.args.terms (stated_at c) ≡ answer c
 answer-read c e = answer-of c true (passed c e).0
 
 -- where not both hold, the answer is refusal 11
 off-layout : (c : After-figures_true-correct) (read : Bool)
-    → c.args.stated.read ≡ read → read && of_this_sheet c ≡ false → judging_by (sheet_in c) c.args.terms (stated_at c) ≡ refused 11
+    → c.args.division.read ≡ read → read && of_this_sheet c ≡ false → judging_by (sheet_in c) c.args.terms (stated_at c) ≡ refused 11
 off-layout c true e out = answer-of c true e ∙ judged-off-sheet (sheet_in c) c.args.terms (division c) out
 off-layout c false e out = answer-of c false e
 
 -- each item is in just one bundle
-once : (c : After-figures_true-correct) → c.all_pass-once.result ≡ true → bundles_and_cuts (each_in_one c.args.sheet.items) (division c) ≡ true
+once : (c : After-figures_true-correct) → c.all_in_one-once.result ≡ true → bundles_and_cuts (each_in_one c.args.sheet.items) (division c) ≡ true
 once c e = in-one-told c ∙ e
 
 pub returns-then-not-laid_out : goal.returns-then-not-laid_out
 returns-then-not-laid_out c =
     let t = (goal.at.returns-then-not-laid_out c).After-figures_true-correct in
-    let answered = off-layout t c.args.stated.read refl (sym (both_told t _ c.both-laid_out.ensures) ∙ c.if-not-laid_out.true) in
-    rw answered (search rules)
+    let both : c.args.division.read && c.all_of_sheet-named.result ≡ false = grind arith in
+    let answered = off-layout t c.args.division.read refl (sym (both_told t false (sym both))) in
+    sym (ap (map_answer stored) answered)
 
 pub returns-then-not-once : goal.returns-then-not-once
 returns-then-not-once c =
     let t = (goal.at.returns-then-not-once c).After-figures_true-correct in
-    let both : true ≡ c.args.stated.read && c.all_pass-named.result = cc in
+    let both : true ≡ c.args.division.read && c.all_of_sheet-named.result = grind arith in
     let out = in-one-told t ∙ c.if-not-once.true in
-    let answered = answer-read t both ∙ judged-not-once (sheet_in t) c.args.terms (division t) (passed t both).1 out in
-    rw answered (search rules)
+    sym (ap (map_answer stored) (answer-read t both ∙ judged-not-once (sheet_in t) c.args.terms (division t) (passed t both).1 out))
 
 pub returns-then-not-correct : goal.returns-then-not-correct
 returns-then-not-correct c =
     let t = (goal.at.returns-then-not-correct c).After-figures_true-correct in
-    let both : true ≡ c.args.stated.read && c.all_pass-named.result = cc in
-    let one : c.all_pass-once.result ≡ true = cc in
+    let both : true ≡ c.args.division.read && c.all_of_sheet-named.result = grind arith in
+    let one : c.all_in_one-once.result ≡ true = cc in
     let out = figures-told t ∙ c.if-not-correct.true in
-    let answered = answer-read t both ∙ judged-false (sheet_in t) c.args.terms (division t) (passed t both).1 (once t one) out in
-    rw answered (search rules)
+    sym (ap (map_answer stored) (answer-read t both ∙ judged-false (sheet_in t) c.args.terms (division t) (passed t both).1 (once t one) out))
 
 pub returns : goal.returns
 returns c =
     let t = (goal.at.returns c).After-figures_true-correct in
-    let both : true ≡ c.args.stated.read && c.all_pass-named.result = cc in
-    let one : c.all_pass-once.result ≡ true = cc in
+    let both : true ≡ c.args.division.read && c.all_of_sheet-named.result = grind arith in
+    let one : c.all_in_one-once.result ≡ true = cc in
     let correct = figures-told t ∙ c.if-not-correct.false in
-    ap (λ margins. record { answer = Accepted; margins = margins }) (margins-told t)
-    ∙ ap outcome (sym (answer-read t both ∙ judged-true (sheet_in t) c.args.terms (division t) (passed t both).1 (once t one) correct))
+    ap accepted (margins-told t)
+    ∙ sym (ap (map_answer stored) (answer-read t both ∙ judged-true (sheet_in t) c.args.terms (division t) (passed t both).1 (once t one) correct))

@@ -14,7 +14,7 @@ use Rattle.printed_division.proofs.put_yards.Goals.{After-put_yard}
 module _ (c : After-put_yard) where
   -- the line of each agent
   abbrev line_of : ℕ → List ℕ
-  line_of = let a = c.args in outcome_line a.agents a.items a.outcome.bundles a.outcome.worths a.outcome.shares a.outcome.cuts
+  line_of = let a = c.args in outcome_line a.agents a.items a.division.bundles a.division.worths a.division.shares a.division.cuts
 
   -- the line of the next agent is written
   line-written : let l = c.loop-i in Writes l.writer (line_of (l.i + 1)) c.put_yard.new.writer
@@ -22,7 +22,7 @@ module _ (c : After-put_yard) where
       let a = c.args in
       let few : min a.agents most_agents ≡ a.agents = omega arith in
       let few_items : min a.items most_items ≡ a.items = omega arith in
-      rw (outcome_line-next a.agents a.items a.outcome.bundles a.outcome.worths a.outcome.shares a.outcome.cuts c.loop-i.i)
+      rw (outcome_line-next a.agents a.items a.division.bundles a.division.worths a.division.shares a.division.cuts c.loop-i.i)
       (rw (few, few_items) at c.put_yard.ensures)
 
 pub loop-i-init : goal.loop-i-init

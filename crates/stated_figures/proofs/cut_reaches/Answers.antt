@@ -1,53 +1,50 @@
-use mathlib.Core.Path.{◌≡◌, sym, ap, ap₂, ◌∙◌}
-use mathlib.Core.List.{[], map}
-use Prim.Native.Nat.{ℕ, ◌+◌, min}
+use mathlib.Core.Path.{◌≡◌, sym, ap, ◌∙◌}
+use mathlib.Core.Bool.{Bool}
+use mathlib.Core.List.{List, [], map}
+use Prim.Native.Nat.{ℕ, ◌-◌, ◌≤◌, min}
 use native.Mathlib.Omega.{arith}
 use lib.Dec.{leb}
-use lib.ListN.{take}
-use lib.Seq.{get_or-take}
-use borrow.Author.Tests.{le-leb, lt-leb}
+use lib.ListN.{length, take, length-take, get_or-map}
+use mir.Syntax.{w16}
+use borrow.Kind.Array.{good_length, e_int}
+use Rattle.std.proofs.Common.{rules, tests}
+use Rattle.std.specs.List.{list_all}
+use Rattle.std.proofs.lemmas.Iterator.{YieldsList-from_slice}
+use Rattle.std.proofs.lemmas.Iterator.Search.{all_from_yields_List}
 use Rattle.lists.specs.Lists.{range, nth, all}
 use Rattle.lists.proofs.sums.LeastOf.{leb-least_of}
-use Rattle.lists.proofs.members.Tests.{all-next, all-fails}
-use Rattle.sheet.specs.Limits.{most_items}
+use Rattle.lists.proofs.members.Chains.{list_all-all}
+use Rattle.lists.proofs.members.Tests.{all-cong, all-nth}
+use Rattle.sheet.specs.Limits.{most_agents, most_items}
 use Rattle.sheet.specs.Sets.{items_of}
 use Rattle.sheet.specs.Valuations.{value}
 use Rattle.sheet.specs.Tables.{all_values}
-use Rattle.sheet.proofs.sets.Bundles.{nth-items}
-use Rattle.stated_figures.proofs.cut_reaches.Invariants.{reaches}
+use Rattle.stated_truth.specs.Lines.{least_to}
 use Rattle.stated_figures.proofs.cut_reaches.Goals as goal
-use Rattle.stated_figures.proofs.cut_reaches.Goals.{After-value_in_use}
 
--- the value of the next bundle
-told : (c : After-value_in_use)
-    → let a = c.args in
-    value (all_values a.items a.valuation) (nth [] (map items_of (take a.agents a.cut)) (c.loop-i.i + 1)) ≡ c.value_in_use.result
-told c =
-    let a = c.args in
-    let l = c.loop-i in
-    let m : a.items ≡ min a.items most_items = omega arith in
-    ap₂ (λ m items. value (all_values m a.valuation) items) m
-    (nth-items (take a.agents a.cut) l.i ∙ ap items_of (get_or-take a.agents a.cut l.i 0 (omega arith)))
-    ∙ sym c.value_in_use.ensures.0
+-- the items of a set at a place
+nth-items : (sets : List ℕ) (i : ℕ) → nth [] (map items_of sets) i ≡ items_of (nth 0 sets i)
+unfolding items_of
+nth-items sets i = get_or-map items_of sets (i - 1) 0
 
-pub returns-then-value_in_use-share : goal.returns-then-value_in_use-share
-returns-then-value_in_use-share c =
-    let a = c.args in
-    let w : ℕ → ℕ = λ c. value (all_values a.items a.valuation) (nth [] (map items_of (take a.agents a.cut)) c) in
-    let fails = ap (leb a.share) (told (goal.at.returns-then-value_in_use-share c).After-value_in_use) ∙ lt-leb _ _ c.if-value_in_use-share.true in
-    sym (leb-least_of w a.agents a.share c.requires.some
-    ∙ all-fails (reaches a.valuation a.agents a.items a.cut a.share) a.agents (c.loop-i.i + 1) (omega arith) (omega arith) fails)
-
-pub loop-i-preserved : goal.loop-i-preserved
-loop-i-preserved c =
-    let a = c.args in
-    let holds = ap (leb a.share) (told (goal.at.loop-i-preserved c).After-value_in_use) ∙ le-leb _ _ c.if-value_in_use-share.false in
-    (omega arith, all-next (reaches a.valuation a.agents a.items a.cut a.share) c.loop-i.i c.loop-i.invariant.1 holds)
+-- whether each set is worth the share, as whether the least one is
+each-least : (row : List ℕ) (share n m : ℕ) (sets : List ℕ) → 1 ≤ n → length sets ≡ n
+    → all (λ set. leb share (value (all_values m row) (items_of set))) sets ≡ leb share (least_to n m row (map items_of sets))
+each-least row share n m sets some places =
+    all-nth (λ set. leb share (value (all_values m row) (items_of set))) 0 sets n places
+    ∙ all-cong _ _ (range 1 n) (λ i _. ap (λ items. leb share (value (all_values m row) items)) (sym (nth-items sets i)))
+    ∙ sym (leb-least_of (λ c. value (all_values m row) (nth [] (map items_of sets) c)) n share some)
 
 pub returns : goal.returns
 returns c =
     let a = c.args in
-    let l = c.loop-i in
-    let w : ℕ → ℕ = λ c. value (all_values a.items a.valuation) (nth [] (map items_of (take a.agents a.cut)) c) in
-    let e : l.i ≡ a.agents = omega arith in
-    sym (leb-least_of w a.agents a.share c.requires.some ∙ sym (ap (λ k. all (reaches a.valuation a.agents a.items a.cut a.share) (range 1 k)) e) ∙ l.invariant.1)
+    let sets = take a.agents a.cut in
+    let reaches : ℕ → ℕ → Bool = λ m set. leb a.share (value (all_values m a.valuation) (items_of set)) in
+    let tested : c.all.result ≡ list_all (reaches (min a.items most_items)) sets =
+    all_from_yields_List (reaches (min a.items most_items)) _ _ c.all.result c.all.ensures.ran (YieldsList-from_slice sets cc) (λ x b q k. search (rules, tests)) in
+    let kept : min a.items most_items ≡ a.items = omega arith in
+    let places = good_length (e_int w16) most_agents a.cut _ c.well_formed.1.1.1.0 in
+    tested
+    ∙ list_all-all (reaches (min a.items most_items)) sets
+    ∙ ap (λ m. all (reaches m) sets) kept
+    ∙ each-least a.valuation a.share a.agents a.items sets c.requires.some (omega (arith, length-take a.agents a.cut))

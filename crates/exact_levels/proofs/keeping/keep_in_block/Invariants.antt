@@ -1,12 +1,11 @@
 -- The loop's invariant: the first i sets of the second half are done.
 use mathlib.Core.Path.{◌≡◌}
 use mathlib.Core.List.{List}
-use Prim.Native.Nat.{ℕ, ◌+◌, ◌-◌, ◌≤◌, ◌<◌, max}
+use Prim.Native.Nat.{ℕ, ◌+◌, ◌≤◌, ◌<◌, max}
 use lib.ListN.{length, get_or}
 use Rattle.exact_levels.proofs.keeping.keep_in_block.Given as goal
 
 pub record Keeping (old : List ℕ) (from bit mark : ℕ) (kept : List ℕ) (i : ℕ) : Type 0 where
-  pub within : i ≤ bit
   pub places : length kept ≡ length old
   pub raised : (j : ℕ) → j < i → get_or kept (from + bit + j) 0 ≡ max (get_or old (from + bit + j) 0) (get_or old (from + j) 0 + mark)
   pub before : (s : ℕ) → s < from + bit → get_or kept s 0 ≡ get_or old s 0
@@ -14,6 +13,3 @@ pub record Keeping (old : List ℕ) (from bit mark : ℕ) (kept : List ℕ) (i :
 
 abbrev pub invariant-loop-i : goal.invariant-loop-i
 invariant-loop-i l = Keeping l.initial.kept l.from l.bit l.mark l.kept l.i
-
-abbrev pub decreases-loop-i : goal.decreases-loop-i
-decreases-loop-i l = l.bit - l.i

@@ -1,7 +1,7 @@
 -- The loop's invariant: the blocks below `from` are done.
 use mathlib.Core.Path.{◌≡◌}
 use mathlib.Core.List.{List}
-use Prim.Native.Nat.{ℕ, ◌-◌, ◌*◌, ◌≤◌, ◌<◌}
+use Prim.Native.Nat.{ℕ, ◌*◌, ◌≤◌, ◌<◌}
 use lib.ListN.{length, get_or}
 use Rattle.exact_levels.specs.internal.Keeping.{with_item}
 use Rattle.exact_levels.proofs.keeping.keep_item.Given as goal
@@ -16,6 +16,3 @@ pub record Passing (old : List ℕ) (bit mark sets : ℕ) (kept : List ℕ) (fro
 
 abbrev pub invariant-loop-from : goal.invariant-loop-from
 invariant-loop-from l = Passing l.initial.kept l.bit l.mark l.sets l.kept l.from
-
-abbrev pub decreases-loop-from : goal.decreases-loop-from
-decreases-loop-from l = l.sets - l.from

@@ -5,4 +5,4 @@ use Rattle.lists.proofs.places.Zeros.{get_d-zeros}
 use Rattle.exact_levels.proofs.keeping.start.Goals as goal
 
 pub loop-set-init : goal.loop-set-init
-loop-set-init c = (omega arith, record { places = length-replicate {A = ℕ} 4096 0; each = λ s lt. absurd (omega arith); small = λ s le. omega (arith, get_d-zeros 4096 s) })
+loop-set-init c = record { places = length-replicate {A = ℕ} 4096 0; each = λ s lt. absurd (omega arith); small = λ s le. omega (arith, get_d-zeros 4096 s) }

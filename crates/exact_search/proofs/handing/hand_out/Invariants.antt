@@ -1,10 +1,8 @@
--- The loop's invariant: the agents above agent i + 1 have their bundles, and the others can be
+-- The loop's invariant: the agents from agent i + 1 on have their bundles, and the others can be
 -- served from what is left.
+use Prim.Native.Nat.{◌-◌, ◌≤◌}
 use Rattle.exact_search.proofs.bundles.Handing.{Handing}
 use Rattle.exact_search.proofs.handing.hand_out.Given as goal
 
 abbrev pub invariant-loop-i : goal.invariant-loop-i
-invariant-loop-i l = Handing l.table l.shares l.agents l.all l.bundles l.left l.i
-
-abbrev pub decreases-loop-i : goal.decreases-loop-i
-decreases-loop-i l = l.i
+invariant-loop-i l = (1 ≤ l.i) × Handing l.table l.shares l.agents l.all l.bundles l.left (l.i - 1)

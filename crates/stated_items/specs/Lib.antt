@@ -1,2 +1,0 @@
--- The tests of bundles.
-pub mod Tests
