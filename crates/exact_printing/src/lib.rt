@@ -31,7 +31,7 @@ fn put_bundles(writer: &mut Writer, agents: usize, bundles: Sets)
     for set in &bundles[..agents] {
         let bundle = items_of(*set);
         writer.byte(b' ');
-        writer.group(&bundle.numbers[..bundle.count]);
+        writer.group(bundle.as_slice());
     }
 }
 
