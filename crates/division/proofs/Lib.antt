@@ -1,5 +1,5 @@
 -- The theorems of the demands; then the laws that the proofs of the functions cite.
-pub mod Outcomes
+pub mod Answered
 pub mod Theorems
 -- one round, and all rounds
 pub mod round

@@ -1,4 +1,4 @@
 -- What dividing a table answers, and what is promised of it. `internal` has what the contracts of private functions cite.
-pub mod Outcome
+pub mod Stored
 pub mod Promise
 pub mod internal

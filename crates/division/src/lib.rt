@@ -2,19 +2,22 @@
 #![tactic(auto)]
 
 ghost use Rattle.std.specs.Prelude.{◌≡◌};
-ghost use Rattle.sheet.specs.Answers.{refused, accepted};
+ghost use Rattle.sheet.specs.Answers.{map_answer};
+ghost use Rattle.sheet.specs.Refusals.{answer_of};
 ghost use Rattle.sheet.specs.Contents.{contents};
 ghost use Rattle.rounds.specs.Division.{division_by_terms, answer};
-ghost use Rattle.division.specs.Outcome.{outcome};
+ghost use Rattle.division.specs.Stored.{stored};
 ghost use Rattle.division.specs.Promise.{Promised};
 ghost use Rattle.division.specs.internal.Shared.{IsShared};
 
-use crate::dividing::{divide_left, nothing_handed_out};
-use grading::assess;
+use crate::dividing::{Allocation, divide_left, nothing_handed_out};
+use cut::Partition;
+use grading::{Assessed, assess};
 use serving::cutter_of;
-use shares::{Cut, share_each_within};
+use shares::{Shares, share_each_within};
 use sheet::amounts::Amounts;
 use sheet::naming::all_items;
+use sheet::refusal::Refusal;
 use sheet::{Sets, Sheet, Table};
 use terms::{Terms, terms_for};
 
@@ -23,63 +26,31 @@ mod dividing;
 // How many growth partitions each cut of the dividing program may look at: "The dividing program allows 4,000,000".
 pub const ALLOWANCE: u32 = 4000000;
 
-// The number of the reason why the table is refused, or that it is divided.
+// A division: its grade; for each agent the worth of its bundle, the bundle as a set of items, its maximin share and its cut, that is the
+// bundle of each item; the cutter of each round in turn. All places that are not in use are 0.
 #[derive(Clone, Copy)]
-pub enum Answer {
-    Refused(u8),
-    Divided,
-}
-
-// The answer; the grade; for each agent the worth of its bundle, the bundle as a set of items, its maximin share and its cut; the cutter
-// of each round in turn. All places that are not in use are 0, and so are all where the table is refused.
-#[derive(Clone, Copy)]
-pub struct Outcome {
-    pub answer: Answer,
+pub struct Division {
     pub grade: u8,
     pub worths: Amounts,
     pub bundles: Sets,
     pub shares: Amounts,
-    pub cuts: [Cut; Sheet::AGENTS],
+    pub cuts: [Partition; Sheet::AGENTS],
     pub cutters: [u8; Sheet::AGENTS],
 }
 
-// A refusal, with no division.
-fn refuse(number: u8) -> Outcome
-    ensures { result ≡ outcome (refused number) }
-{
-    let blank = Cut {
-        partition: [0; Sheet::ITEMS],
-    };
-    Outcome {
-        answer: Answer::Refused(number),
-        grade: 0,
-        worths: [0; Sheet::AGENTS],
-        bundles: [0; Sheet::AGENTS],
-        shares: [0; Sheet::AGENTS],
-        cuts: [blank; Sheet::AGENTS],
-        cutters: [0; Sheet::AGENTS],
-    }
-}
-
 // The division of a table that is not refused, by the terms, from the shares and the cuts: the first cutter's own cut serves the first round.
-fn divide_shared(
-    table: Table,
-    sheet: Sheet,
-    terms: Terms,
-    allowance: u32,
-    own: shares::Outcome,
-) -> Outcome
+fn divide_shared(table: Table, sheet: Sheet, terms: Terms, allowance: u32, own: Shares) -> Division
     requires { IsShared (contents sheet table) terms allowance own }
-    ensures { result ≡ outcome (accepted (division_by_terms (contents sheet table) terms)) }
+    ensures { result ≡ stored (division_by_terms (contents sheet table) terms) }
 {
-    let shares = own.shares;
-    let cuts = own.cuts;
+    let Shares { shares, cuts } = own;
     let all = all_items(sheet.agents);
     let cutter = cutter_of(all);
-    let own_cut = cuts[cutter as usize - 1];
-    let partition = own_cut.partition;
-    let nothing = nothing_handed_out();
-    let allocation = divide_left(
+    let Allocation {
+        bundles,
+        cutters,
+        ..
+    } = divide_left(
         table,
         shares,
         terms,
@@ -87,16 +58,12 @@ fn divide_shared(
         cutter,
         all,
         all_items(sheet.items),
-        partition,
-        nothing,
+        cuts[cutter as usize - 1],
+        nothing_handed_out(),
     );
-    let bundles = allocation.bundles;
-    let cutters = allocation.cutters;
-    let assessed = assess(table, sheet, terms, shares, bundles);
-    let worths = assessed.worths;
-    Outcome {
-        answer: Answer::Divided,
-        grade: assessed.grade,
+    let Assessed { worths, grade, .. } = assess(table, sheet, terms, shares, bundles);
+    Division {
+        grade,
         worths,
         bundles,
         shares,
@@ -108,16 +75,10 @@ fn divide_shared(
 // The division of a sheet. Refused as its shares are: with 4 where the agents lie outside the limits, else
 // with 5 where the items do, else with 9 where a share times the agents exceeds the sum of its marks, else with 14 where the growth
 // partitions of all items into as many bundles as agents outnumber the allowance.
-pub fn divide(table: Table, sheet: Sheet, allowance: u32) -> Outcome
-    ensures answered { result ≡ outcome (answer (contents sheet table) allowance) }
+pub fn divide(table: Table, sheet: Sheet, allowance: u32) -> Result<Division, Refusal>
+    ensures answered { answer_of result ≡ map_answer stored (answer (contents sheet table) allowance) }
     ensures promised { Promised (contents sheet table) allowance result }
 {
-    let own = share_each_within(table, sheet, allowance);
-    let answer = own.answer;
-    match answer {
-        shares::Answer::Refused(number) => refuse(number),
-        shares::Answer::Shared => {
-            divide_shared(table, sheet, terms_for(sheet.agents), allowance, own)
-        }
-    }
+    let own = share_each_within(table, sheet, allowance)?;
+    Ok(divide_shared(table, sheet, terms_for(sheet.agents), allowance, own))
 }

@@ -7,7 +7,7 @@ ghost use Rattle.sheet.specs.Answers.{number_of, after};
 ghost use Rattle.rounds.specs.Division.{answer};
 ghost use Rattle.division_c.specs.Lent.{store_grade, store_bundles, store_cutters};
 
-use division::Answer;
+use division::Division;
 use sheet::{Sheet, Table};
 
 // Divides the table among `agents` agents (yards) with an allowance for cutting. Answers 0 and stores the grade, each agent's bundle as
@@ -27,17 +27,19 @@ pub extern "C" fn divide_table(
     ensures bundles { bundles.new ≡ after store_bundles (answer (sheet_of agents items table.now) allowance) bundles.old }
     ensures cutters { cutters.new ≡ after store_cutters (answer (sheet_of agents items table.now) allowance) cutters.old }
 {
-    let outcome = division::divide(*table, Sheet { agents, items }, allowance);
-    let answer = outcome.answer;
-    match answer {
-        Answer::Refused(number) => number,
-        Answer::Divided => {
-            let given = outcome.bundles;
-            let cut_by = outcome.cutters;
-            *grade = outcome.grade;
-            *bundles = given;
+    match division::divide(*table, Sheet { agents, items }, allowance) {
+        Ok(division) => {
+            let Division {
+                grade: graded,
+                bundles: held,
+                cutters: cut_by,
+                ..
+            } = division;
+            *grade = graded;
+            *bundles = held;
             *cutters = cut_by;
             0
         }
+        Err(refusal) => refusal.number(),
     }
 }

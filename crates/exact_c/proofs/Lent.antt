@@ -6,23 +6,25 @@ use Prim.Native.Nat.{ℕ}
 use lib.ListN.{length}
 use Rattle.sheet.specs.Answers.{Answer, refused, accepted, number_of, after}
 use Rattle.sheet.specs.Contents.{Contents}
-use Rattle.writing.specs.declared.Answer as declared
-use Rattle.reply.specs.Stored.{number_answered, length_answered}
+use Rattle.sheet.specs.Refusals.{number}
+use Rattle.sheet.specs.declared.refusal.Refusal.{Refusal}
+use Rattle.lists.specs.Lists.{zeros}
+use Rattle.sheet.specs.Limits.{most_agents}
+use Rattle.std.specs.Prelude.{Option, Some, None, Result, Ok, Err}
+use Rattle.reply.specs.Stored.{length_answered}
 use Rattle.reply.proofs.Stored.{told}
 use Rattle.exact_division.specs.Search.{searching}
 use Rattle.exact_search.specs.Outcome.{Searched}
-use Rattle.exact_search.specs.declared.Answer.TheVariants.{Refused, None, Found}
-use Rattle.exact_search.specs.declared.Outcome.{Outcome}
-use Rattle.exact_search.proofs.Outcomes.{refused-answered, none-answered, none-sets, found-answered, found-sets}
+use Rattle.exact_search.proofs.Outcomes.{refused-answered, none-answered, found-answered, found-sets}
 use Rattle.sheet_to_exact.specs.Showing.{exact_from, Shown}
 use Rattle.exact_c.specs.Lent.{store_found, store_shown, TableStored, TextStored}
 
-module _ {sheet : Contents} {o : Outcome} (s : Searched sheet o) {old_found : ℕ} {old_bundles : List ℕ} where
+module _ {sheet : Contents} {old_found : ℕ} {old_bundles : List ℕ} where
   -- where the search answers a, what a says is stored
-  stored_of : (a : Answer Bool) → searching sheet ≡ a → {new_found : ℕ} {new_bundles : List ℕ}
+  stored_of : {found : Result (Option (List ℕ)) Refusal} (s : Searched sheet found) (a : Answer Bool) → searching sheet ≡ a → {new_found : ℕ} {new_bundles : List ℕ}
       → new_found ≡ after store_found a old_found → new_bundles ≡ after (store_shown s.bundles) a old_bundles
       → TableStored sheet old_found old_bundles (number_of a) new_found new_bundles
-  stored_of a e found sets =
+  stored_of s a e found sets =
       record {
         bundles = s.bundles;
         may_show = s.may_show;
@@ -32,19 +34,19 @@ module _ {sheet : Contents} {o : Outcome} (s : Searched sheet o) {old_found : �
       }
 
   -- a refused sheet answers its number, and the places keep their content
-  pub refusal-stored : (number : ℕ) → o.answer ≡ Refused number → TableStored sheet old_found old_bundles number old_found old_bundles
-  refusal-stored number e = stored_of (refused number) (refused-answered s number e) refl refl
+  pub refusal-stored : (e : Refusal) → Searched sheet (Err e) → TableStored sheet old_found old_bundles (number e) old_found old_bundles
+  refusal-stored e s = stored_of s (refused (number e)) (refused-answered e s) refl refl
 
   -- none answers 0, and zeros are stored
-  pub none-stored : o.answer ≡ None → TableStored sheet old_found old_bundles 0 0 o.bundles
-  none-stored e = stored_of (accepted false) (none-answered s e) refl (none-sets s e)
+  pub none-stored : Searched sheet (Ok None) → TableStored sheet old_found old_bundles 0 0 (zeros most_agents)
+  none-stored s = stored_of s (accepted false) (none-answered s) refl refl
 
   -- an exact division answers 0, and 1 and its sets are stored
-  pub found_stored : o.answer ≡ Found → TableStored sheet old_found old_bundles 0 1 o.bundles
-  found_stored e = stored_of (accepted true) (found-answered s e) refl (found-sets s e)
+  pub found_stored : (sets : List ℕ) → Searched sheet (Ok (Some sets)) → TableStored sheet old_found old_bundles 0 1 sets
+  found_stored sets s = stored_of s (accepted true) (found-answered sets s) refl (found-sets sets s)
 
 -- the number of the code's answer is returned, and the length of its text is stored
-pub text-stored : {text old new : List ℕ} {answer : declared.Answer} {old_length number new_length : ℕ} → Shown text old answer new → number ≡ number_answered answer
+pub text-stored : {text old new : List ℕ} {answer : Answer ℕ} {old_length number new_length : ℕ} → Shown text old answer new → number ≡ number_of answer
     → new_length ≡ length_answered answer old_length → TextStored text old old_length number new new_length
 text-stored {text} {old} {old_length = old_length} s number stored =
     let both = told (exact_from text s.bundles (length old)) old_length s.answer number stored in

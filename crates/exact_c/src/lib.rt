@@ -19,21 +19,18 @@ pub extern "C" fn exact_table(
 ) -> u8
     ensures { TableStored (sheet_of agents items table.now) found.old bundles.old result found.new bundles.new }
 {
-    let outcome = exact_search::find_exact(*table, Sheet { agents, items });
-    let answer = outcome.answer;
-    let sets = outcome.bundles;
-    match answer {
-        exact_search::Answer::Refused(number) => number,
-        exact_search::Answer::None => {
-            *found = 0;
-            *bundles = sets;
-            0
-        }
-        exact_search::Answer::Found => {
+    match exact_search::find_exact(*table, Sheet { agents, items }) {
+        Ok(Some(sets)) => {
             *found = 1;
             *bundles = sets;
             0
         }
+        Ok(None) => {
+            *found = 0;
+            *bundles = [0; Sheet::AGENTS];
+            0
+        }
+        Err(refusal) => refusal.number(),
     }
 }
 

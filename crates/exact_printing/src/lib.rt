@@ -5,75 +5,66 @@ ghost use Rattle.std.specs.Prelude.{◌≡◌, ◌≤◌, length};
 ghost use mathlib.Core.List.{flat_map};
 ghost use Rattle.lists.specs.Lists.{range};
 ghost use Rattle.sheet.specs.Limits.{most_agents};
-ghost use Rattle.sheet.specs.Answers.{after};
+ghost use Rattle.sheet.specs.Answers.{map_answer, after};
+ghost use Rattle.sheet.specs.Refusals.{answer_of};
 ghost use Rattle.sheet.specs.Contents.{contents};
-ghost use Rattle.writing.specs.Answered.{answered};
 ghost use Rattle.writing.specs.Filled.{filling, filled};
-ghost use Rattle.writing.specs.Output.{output, Written};
+ghost use Rattle.writing.specs.WithText.{Writes};
 ghost use Rattle.exact_printing.specs.Printing.{longest_exact, Printed};
 ghost use Rattle.exact_printing.specs.internal.SetsText.{set_group, sets_text};
 
 use exact_search::find_exact;
 use sheet::naming::items_of;
+use sheet::refusal::Refusal;
 use sheet::{Sets, Sheet, Table};
-use writing::{Answer, fill, put, put_bytes, put_group};
+use writing::{Writer, fill};
 
 // A buffer of so many bytes is long enough for every sheet: (exact) and the line feed, a space and () for each agent, and at most three
 // bytes for each item.
 pub const LONGEST: usize = 8 + 3 * Sheet::AGENTS + 3 * Sheet::ITEMS;
 
 // The bundles of the agents in turn, each behind a space.
-fn put_bundles(buffer: &mut [u8], at: usize, agents: usize, bundles: Sets) -> usize
+fn put_bundles(writer: &mut Writer, agents: usize, bundles: Sets)
     requires { agents ≤ most_agents }
-    ensures { Written (output buffer.old at) (flat_map (set_group bundles) (range 1 agents)) (output buffer.new result) }
+    ensures { Writes writer.old (flat_map (set_group bundles) (range 1 agents)) writer.new }
 {
-    let mut next = at;
-    let mut i: usize = 0;
-    while i < agents {
-        let bundle = items_of(bundles[i]);
-        let numbers = bundle.numbers;
-        let count = bundle.count;
-        next = put(buffer, next, b' ');
-        next = put_group(buffer, next, &numbers[..count]);
-        i += 1;
+    for set in &bundles[..agents] {
+        let bundle = items_of(*set);
+        writer.byte(b' ');
+        writer.group(&bundle.numbers[..bundle.count]);
     }
-    next
 }
 
 // The whole text of an exact division.
-fn put_exact(buffer: &mut [u8], agents: usize, bundles: Sets) -> usize
+fn put_exact(writer: &mut Writer, agents: usize, bundles: Sets)
     requires { agents ≤ most_agents }
-    ensures { Written (output buffer.old 0) (sets_text agents bundles) (output buffer.new result) }
+    ensures { Writes writer.old (sets_text agents bundles) writer.new }
 {
-    let opened = put_bytes(buffer, 0, b"(exact");
-    let listed = put_bundles(buffer, opened, agents, bundles);
-    put_bytes(buffer, listed, b")\n")
+    writer.bytes(b"(exact");
+    put_bundles(writer, agents, bundles);
+    writer.bytes(b")\n");
 }
 
 // Prints the bundles of an exact division; refused with 10 where the buffer is shorter than the text.
-fn print_bundles(agents: usize, bundles: Sets, buffer: &mut [u8]) -> Answer
+fn print_bundles(agents: usize, bundles: Sets, buffer: &mut [u8]) -> Result<usize, Refusal>
     requires { (agents ≤ most_agents) × (length (sets_text agents bundles) ≤ longest_exact) }
-    ensures answer { result ≡ answered (filling (length buffer.old) (sets_text agents bundles)) }
+    ensures answer { answer_of result ≡ map_answer length (filling (length buffer.old) (sets_text agents bundles)) }
     ensures buffer { buffer.new ≡ after filled (filling (length buffer.old) (sets_text agents bundles)) buffer.old }
 {
     let mut text = [0u8; LONGEST];
-    let length = put_exact(&mut text, agents, bundles);
-    fill(&text[..length], buffer)
+    let mut writer = Writer::new(&mut text);
+    put_exact(&mut writer, agents, bundles);
+    fill(writer.written(), buffer)
 }
 
 // Searches a sheet for an exact division and prints it, or the word none, from the front of the buffer. Refused
 // as by `find_exact`, else with 10 where the buffer is shorter than the text; then the buffer keeps all its bytes.
-pub fn print_exact(table: Table, sheet: Sheet, buffer: &mut [u8]) -> Answer
-    ensures { Printed (contents sheet table) buffer.old result buffer.new }
+pub fn print_exact(table: Table, sheet: Sheet, buffer: &mut [u8]) -> Result<usize, Refusal>
+    ensures { Printed (contents sheet table) buffer.old (answer_of result) buffer.new }
 {
-    let outcome = find_exact(table, sheet);
-    let answer = outcome.answer;
-    match answer {
-        exact_search::Answer::Refused(number) => Answer::Refused(number),
-        exact_search::Answer::None => fill(b"(exact none)\n", buffer),
-        exact_search::Answer::Found => {
-            let bundles = outcome.bundles;
-            print_bundles(sheet.agents, bundles, buffer)
-        }
+    let exact = find_exact(table, sheet)?;
+    match exact {
+        Some(bundles) => print_bundles(sheet.agents, bundles, buffer),
+        None => fill(b"(exact none)\n", buffer),
     }
 }

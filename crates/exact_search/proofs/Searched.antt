@@ -5,25 +5,26 @@ use mathlib.Core.List.{List, [], Memᴰ as Mem}
 use Prim.Native.Nat.{ℕ, ◌^◌, ◌≤◌, ◌<◌, min}
 use native.Mathlib.Omega.{arith}
 use lib.ListN.{get_or}
-use Rattle.lists.specs.Lists.{range, nth, zeros}
+use Rattle.lists.specs.Lists.{range, nth}
 use Rattle.lists.proofs.ranges.Ranges.{range-sublist}
 use Rattle.sheet.specs.Limits.{most_agents, most_items}
 use Rattle.sheet.specs.Sets.{items_of, set_of}
-use Rattle.sheet.specs.Answers.{refused, accepted}
+use Rattle.std.specs.Prelude.{Some, None, Ok, Err}
+use Rattle.sheet.specs.declared.refusal.Refusal.{Refusal}
+use Rattle.sheet.specs.Refusals.{number}
+use Rattle.sheet.specs.Answers.{refused, accepted, map_answer}
 use Rattle.sheet.specs.Contents.{Contents}
 use Rattle.sheet.proofs.Accepted.{refused-not-accepted}
 use Rattle.sheet.proofs.sets.AllItems.{items-of-all}
 use Rattle.sheet.proofs.sets.Ranges.{set_of-up_to, set_of-below}
 use Rattle.shares.specs.Shares.{share_of}
 use Rattle.shares.specs.Known.{SharesIn}
-use Rattle.shares.proofs.Outcomes.{nth-shares-in}
+use Rattle.shares.proofs.Answered.{nth-shares-in}
 use Rattle.exact_division.specs.Exact.{exact_exists}
 use Rattle.exact_division.specs.Search.{searching}
 use Rattle.exact_division.proofs.Existence.{exact-division-exists}
 use Rattle.exact_division.proofs.Answers.{searching-within-limits}
-use Rattle.exact_search.specs.Outcome.{outcome, Searched}
-use Rattle.exact_search.specs.declared.Answer.TheVariants.{None, Found}
-use Rattle.exact_search.specs.declared.Outcome.{Outcome}
+use Rattle.exact_search.specs.Outcome.{stored, Searched}
 use Rattle.exact_levels.specs.ServedSets.{Serves, Ranked}
 use Rattle.exact_levels.specs.Levels.{levels_of}
 use Rattle.exact_levels.proofs.Levels.{levels-ranked}
@@ -33,9 +34,9 @@ use Rattle.exact_search.proofs.bundles.Shown.{shown, shown-exact-division, shown
 
 module _ (sheet : Contents) where
   -- a refusal shows nothing
-  pub searched-refused : (number : ℕ) (r : Outcome) → searching sheet ≡ refused number → r ≡ outcome (refused number) [] → Searched sheet r
-  searched-refused number r is told =
-      record { bundles = []; may_show = λ e. absurd (refused-not-accepted true number (sym is ∙ e)); answered = told ∙ ap (λ a. outcome a []) (sym is) }
+  pub searched-refused : (e : Refusal) → searching sheet ≡ refused (number e) → Searched sheet (Err e)
+  searched-refused e is =
+      record { bundles = []; may_show = λ a. absurd (refused-not-accepted true (number e) (sym is ∙ a)); answered = sym (ap (map_answer (stored [])) is) }
 
 -- the shares are known, and `all` is the set of the items
 module _ {sheet : Contents} {shares : List ℕ} (shared : SharesIn sheet shares) (all : ℕ) (all-is : all ≡ set_of (range 1 (min sheet.items most_items))) where
@@ -63,10 +64,10 @@ module _ {sheet : Contents} {shares : List ℕ} (shared : SharesIn sheet shares)
         rw (levels-are, agents, items) (levels-ranked sheet.table shares sheet.agents sheet.items few_items all (omega (arith, all-is, upto, set_of-up_to sheet.items)))
 
     -- not all agents can be served from all items
-    pub searched-none : get_or levels all 0 < sheet.agents → Searched sheet (record { answer = None; bundles = zeros most_agents })
+    pub searched-none : get_or levels all 0 < sheet.agents → Searched sheet (Ok None)
     searched-none fewer = step (exact_exists sheet) refl
       where
-        step : (b : Bool) → exact_exists sheet ≡ b → Searched sheet (record { answer = None; bundles = zeros most_agents })
+        step : (b : Bool) → exact_exists sheet ≡ b → Searched sheet (Ok None)
         step true e =
             let serves = subst (Serves sheet.table shares sheet.agents) (sym (all-is ∙ upto)) (exists-serves sheet.agents sheet.items sheet.table shares few_items own_shares e) in
             absurd (omega (arith, ((ranked all (omega arith)).served sheet.agents (omega arith)).1 serves))
@@ -75,7 +76,7 @@ module _ {sheet : Contents} {shares : List ℕ} (shared : SharesIn sheet shares)
             record {
               bundles = [];
               may_show = λ other. let z : false ≡ true = cc in absurd (false≢true z);
-              answered = ap (λ a. outcome a []) (sym is);
+              answered = sym (ap (map_answer (stored [])) is);
             }
 
     module _ (enough : sheet.agents ≤ get_or levels all 0) where
@@ -90,7 +91,7 @@ module _ {sheet : Contents} {shares : List ℕ} (shared : SharesIn sheet shares)
           }
 
       -- the bundles are an exact division
-      pub searched-found : (bundles : List ℕ) → HandedOut sheet.table shares sheet.agents all bundles → Searched sheet (record { answer = Found; bundles = bundles })
+      pub searched-found : (bundles : List ℕ) → HandedOut sheet.table shares sheet.agents all bundles → Searched sheet (Ok (Some bundles))
       searched-found bundles out =
           let items : items_of all ≡ range 1 sheet.items = ap items_of all-is ∙ items-of-all sheet.items few_items in
           let exact = shown-exact-division sheet.agents sheet.items sheet.table shares bundles all shared.counts.few small items own_shares out in
@@ -99,6 +100,6 @@ module _ {sheet : Contents} {shares : List ℕ} (shared : SharesIn sheet shares)
             bundles = shown sheet.agents sheet.items sheet.table shares bundles all shared.counts.few small items own_shares out;
             may_show = λ _. exact;
             answered =
-                ap (λ b. record { answer = Found; bundles = b }) (shown-placed sheet.agents sheet.items sheet.table shares bundles all shared.counts.few small items own_shares out)
-                ∙ ap (λ a. outcome a (shown sheet.agents sheet.items sheet.table shares bundles all shared.counts.few small items own_shares out)) (sym is);
+                ap (λ b. accepted (Some b)) (shown-placed sheet.agents sheet.items sheet.table shares bundles all shared.counts.few small items own_shares out)
+                ∙ sym (ap (map_answer (stored (shown sheet.agents sheet.items sheet.table shares bundles all shared.counts.few small items own_shares out))) is);
           }

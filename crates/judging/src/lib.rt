@@ -70,14 +70,14 @@ fn judge_shared(
     Ok(assessed.margins)
 }
 
-// The margin of each agent, 0 after the last, where all that a division of a sheet states is true, by the terms of document 01. Refused as the
+// The margin of each agent, 0 after the last, where a division of a sheet is read and all that it states is true, by the terms of document 01. Refused as the
 // shares of the sheet are; else with 11 where the division is not read or names an item that is not on the sheet, with 12 where an item is in
 // no bundle or in two, of the division or of a cut, and with 13 where a worth, a share, a cut or the grade is false.
 pub fn judge(table: Table, sheet: Sheet, division: Option<Stated>) -> Result<Margins, Refusal>
     ensures { answer_of result ≡ map_answer stored (judging (contents sheet table) (stated_in sheet.agents division)) }
 {
     let own = share_each(table, sheet)?;
-    let division = division.ok_or(Refusal::DivisionMalformed)?;
     let terms = terms_for(sheet.agents);
+    let division = division.ok_or(Refusal::DivisionMalformed)?;
     judge_shared(table, sheet, terms, own.shares, division)
 }

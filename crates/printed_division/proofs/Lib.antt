@@ -1,2 +1,2 @@
--- Laws of the text of an outcome.
+-- Laws of the text of a division.
 pub mod OutcomeLine

@@ -4,16 +4,17 @@
 ghost use Rattle.std.specs.Prelude.{◌≡◌, ◌≤◌, length};
 ghost use Rattle.sheet.specs.Limits.{InUse};
 ghost use Rattle.sheet.specs.Contents.{contents};
-ghost use Rattle.sheet.specs.Answers.{after};
-ghost use Rattle.writing.specs.Answered.{answered};
+ghost use Rattle.sheet.specs.Answers.{map_answer, after};
+ghost use Rattle.sheet.specs.Refusals.{answer_of};
 ghost use Rattle.writing.specs.Filled.{filling, filled};
 ghost use Rattle.printing.specs.Printing.{longest_printed, printing};
 ghost use Rattle.printed_division.specs.OutcomeText.{outcome_text};
 
-use division::{Outcome, divide};
+use division::{Division, divide};
 use printed_division::put_division;
+use sheet::refusal::Refusal;
 use sheet::{Sheet, Table};
-use writing::{Answer, fill};
+use writing::{Writer, fill};
 
 // The most bytes of the head.
 const LONGEST_HEAD: usize = 43;
@@ -33,27 +34,34 @@ const LONGEST_CUTTERS: usize = 10 + 2 * Sheet::AGENTS;
 // A buffer of so many bytes is long enough for every division: the head, a line for each agent, the cutters, and the last line.
 pub const LONGEST: usize = LONGEST_HEAD + Sheet::AGENTS * LONGEST_YARD + LONGEST_CUTTERS + 6;
 
-// Prints an outcome; refused with 10 where the buffer is shorter than the text.
-fn print_outcome(agents: usize, items: usize, outcome: Outcome, buffer: &mut [u8]) -> Answer
-    requires { InUse agents items × (length (outcome_text agents items outcome) ≤ longest_printed) }
-    ensures answer { result ≡ answered (filling (length buffer.old) (outcome_text agents items outcome)) }
-    ensures buffer { buffer.new ≡ after filled (filling (length buffer.old) (outcome_text agents items outcome)) buffer.old }
+// Prints a division; refused with 10 where the buffer is shorter than the text.
+fn print_outcome(
+    agents: usize,
+    items: usize,
+    division: Division,
+    buffer: &mut [u8],
+) -> Result<usize, Refusal>
+    requires { InUse agents items × (length (outcome_text agents items division) ≤ longest_printed) }
+    ensures answer { answer_of result ≡ map_answer length (filling (length buffer.old) (outcome_text agents items division)) }
+    ensures buffer { buffer.new ≡ after filled (filling (length buffer.old) (outcome_text agents items division)) buffer.old }
 {
     let mut text = [0u8; LONGEST];
-    let length = put_division(&mut text, agents, items, outcome);
-    fill(&text[..length], buffer)
+    let mut writer = Writer::new(&mut text);
+    put_division(&mut writer, agents, items, division);
+    fill(writer.written(), buffer)
 }
 
 // Divides a sheet with an allowance and prints the division from the front of the buffer. Refused as by
 // `divide`, else with 10 where the buffer is shorter than the text; then the buffer keeps all its bytes.
-pub fn print_division(table: Table, sheet: Sheet, allowance: u32, buffer: &mut [u8]) -> Answer
-    ensures answer { result ≡ answered (printing (contents sheet table) allowance (length buffer.old)) }
+pub fn print_division(
+    table: Table,
+    sheet: Sheet,
+    allowance: u32,
+    buffer: &mut [u8],
+) -> Result<usize, Refusal>
+    ensures answer { answer_of result ≡ map_answer length (printing (contents sheet table) allowance (length buffer.old)) }
     ensures buffer { buffer.new ≡ after filled (printing (contents sheet table) allowance (length buffer.old)) buffer.old }
 {
-    let outcome = divide(table, sheet, allowance);
-    let answer = outcome.answer;
-    match answer {
-        division::Answer::Refused(number) => Answer::Refused(number),
-        division::Answer::Divided => print_outcome(sheet.agents, sheet.items, outcome, buffer),
-    }
+    let division = divide(table, sheet, allowance)?;
+    print_outcome(sheet.agents, sheet.items, division, buffer)
 }

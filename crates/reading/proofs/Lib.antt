@@ -1,4 +1,4 @@
--- Laws of the definitions: the parts of a text that are read one after another, what follows reading, what an accepted text has and how
+-- Laws of the definitions: the parts of a text that are read one after another, what the code's result says of the text, what an accepted text has and how
 -- great its marks are, which numbers refuse a text, a sheet alone and before another text, the samples by computation, that spaces, remarks
 -- and blank lines count for nothing, and that wider limits of a mark refuse no text accepted before. What sheet a and the sheet of the three
 -- players of document 000 carry is computed here once, and cited by the crates above.

@@ -5,7 +5,6 @@ use Rattle.text.specs.Bytes.{bytes}
 use Rattle.text.specs.Decimal.{decimal}
 use Rattle.sheet.specs.Answers.{Answer, refused, accepted}
 use Rattle.writing.specs.Output.{Output, output, with_byte}
-use Rattle.writing.specs.declared.Answer as declared
 
 -- "one line such as `(refused 4)`"
 abbrev pub refusal_line : ℕ → List ℕ
@@ -26,9 +25,9 @@ replied (accepted text) = text
 
 -- a buffer, and the length of its front that is to be written: on a refusal its line is put there byte by byte, as far as there is room;
 -- a text stands there already
-abbrev pub reply_into : declared.Answer → List ℕ → Output
-reply_into (declared.TheVariants.Refused number) buffer = foldl with_byte (output buffer 0) (refusal_line number)
-reply_into (declared.TheVariants.Written written) buffer = output buffer (min written (length buffer))
+abbrev pub reply_into : Answer ℕ → List ℕ → Output
+reply_into (refused number) buffer = foldl with_byte (output buffer 0) (refusal_line number)
+reply_into (accepted written) buffer = output buffer (min written (length buffer))
 
 -- the first n bytes of a buffer are a front of it: there are so many, in the two ways in which one who lends them on is asked
 abbrev pub Front : ℕ → List ℕ → Type 0

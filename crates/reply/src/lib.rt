@@ -2,44 +2,51 @@
 #![tactic(auto)]
 
 ghost use Rattle.std.specs.Prelude.{◌≡◌};
-ghost use Rattle.writing.specs.Output.{output, Written};
+ghost use Rattle.sheet.specs.Answers.{number_of};
+ghost use Rattle.sheet.specs.Refusals.{answer_of};
+ghost use Rattle.writing.specs.Output.{output};
+ghost use Rattle.writing.specs.WithText.{Writes};
 ghost use Rattle.reply.specs.Replies.{refusal_line, reply_into, Front};
-ghost use Rattle.reply.specs.Stored.{number_answered, length_answered};
+ghost use Rattle.reply.specs.Stored.{length_answered};
 
-use sheet::lesser;
-use writing::Answer;
+use sheet::refusal::Refusal;
+use writing::Writer;
 
-// The line of a refusal from the front of the buffer on, as far as there is room; returns how many bytes of it there are.
-fn put_refusal(buffer: &mut [u8], number: u8) -> usize
-    ensures { Written (output buffer.old 0) (refusal_line number) (output buffer.new result) }
+// The line of a refusal, as far as there is room.
+fn put_refusal(writer: &mut Writer, number: u8)
+    ensures { Writes writer.old (refusal_line number) writer.new }
 {
-    let next = writing::put_field(buffer, 0, b"(refused ", number as u64);
-    writing::put_bytes(buffer, next, b")\n")
+    writer.field(b"(refused ", u64::from(number));
+    writer.bytes(b")\n");
 }
 
 // What a program writes for an answer about its lent buffer: puts the line of a refusal at the front of the buffer, leaves the buffer
 // of a text as it is, and returns the length of the front to write.
-pub fn reply(answer: Answer, buffer: &mut [u8]) -> usize
-    ensures front { output buffer.new result ≡ reply_into answer buffer.old }
+pub fn reply(answer: Result<usize, Refusal>, buffer: &mut [u8]) -> usize
+    ensures front { output buffer.new result ≡ reply_into (answer_of answer) buffer.old }
     ensures within { Front result buffer.new }
 {
     match answer {
-        Answer::Refused(number) => put_refusal(buffer, number),
-        Answer::Written(length) => lesser(length, buffer.len()),
+        Ok(length) => length.min(buffer.len()),
+        Err(refusal) => {
+            let mut writer = Writer::new(buffer);
+            put_refusal(&mut writer, refusal.number());
+            writer.at
+        }
     }
 }
 
 // What a caller by C's calling convention is told: stores the length of a text and returns 0, or returns the number of the refusal and
 // leaves the length as it is.
-pub fn store_length(answer: Answer, length: &mut usize) -> u8
-    ensures number { result ≡ number_answered answer }
-    ensures length { length.new ≡ length_answered answer length.old }
+pub fn store_length(answer: Result<usize, Refusal>, length: &mut usize) -> u8
+    ensures number { result ≡ number_of (answer_of answer) }
+    ensures length { length.new ≡ length_answered (answer_of answer) length.old }
 {
     match answer {
-        Answer::Refused(number) => number,
-        Answer::Written(written) => {
+        Ok(written) => {
             *length = written;
             0
         }
+        Err(refusal) => refusal.number(),
     }
 }

@@ -3,15 +3,16 @@ ghost use Rattle.std.specs.Prelude.{◌≡◌, ◌≤◌, length};
 ghost use mathlib.Core.List.{flat_map};
 ghost use Rattle.lists.specs.Lists.{range};
 ghost use Rattle.sheet.specs.Limits.{most_agents};
-ghost use Rattle.sheet.specs.Answers.{after};
-ghost use Rattle.writing.specs.Answered.{answered};
+ghost use Rattle.sheet.specs.Answers.{map_answer, after};
+ghost use Rattle.sheet.specs.Refusals.{answer_of};
 ghost use Rattle.writing.specs.Filled.{filling, filled};
-ghost use Rattle.writing.specs.Output.{output, Written};
+ghost use Rattle.writing.specs.WithText.{Writes};
 ghost use Rattle.sheet_to_judgement.specs.internal.MarginsText.{spaced_margin, margins_text};
 
 use margins::Margins;
 use sheet::Sheet;
-use writing::{Answer, fill, put, put_bytes, put_signed};
+use sheet::refusal::Refusal;
+use writing::{Writer, fill};
 
 // The most digits of a margin: a whole number of 64 bits has no more.
 const MARGIN_DIGITS: usize = 19;
@@ -21,38 +22,38 @@ const MARGIN_DIGITS: usize = 19;
 pub const LONGEST: usize = 21 + Sheet::AGENTS * (2 + MARGIN_DIGITS);
 
 // The margins of the agents in turn, each behind a space.
-fn put_margins(buffer: &mut [u8], at: usize, agents: usize, margins: Margins) -> usize
+fn put_margins(writer: &mut Writer, agents: usize, margins: Margins)
     requires { agents ≤ most_agents }
-    ensures { Written (output buffer.old at) (flat_map (spaced_margin margins) (range 1 agents)) (output buffer.new result) }
+    ensures { Writes writer.old (flat_map (spaced_margin margins) (range 1 agents)) writer.new }
 {
-    let mut next = at;
-    let mut i: usize = 0;
-    while i < agents {
-        let margin = margins[i];
-        next = put(buffer, next, b' ');
-        next = put_signed(buffer, next, margin);
-        i += 1;
+    for margin in &margins[..agents] {
+        writer.byte(b' ');
+        writer.signed(*margin);
     }
-    next
 }
 
 // The whole text.
-fn put_accepted(buffer: &mut [u8], agents: usize, margins: Margins) -> usize
+fn put_accepted(writer: &mut Writer, agents: usize, margins: Margins)
     requires { agents ≤ most_agents }
-    ensures { Written (output buffer.old 0) (margins_text agents margins) (output buffer.new result) }
+    ensures { Writes writer.old (margins_text agents margins) writer.new }
 {
-    let opened = put_bytes(buffer, 0, b"(accepted (margins");
-    let listed = put_margins(buffer, opened, agents, margins);
-    put_bytes(buffer, listed, b"))\n")
+    writer.bytes(b"(accepted (margins");
+    put_margins(writer, agents, margins);
+    writer.bytes(b"))\n");
 }
 
 // Prints the margins of the agents; refused with 10 where the buffer is shorter than the text.
-pub(crate) fn print_margins(agents: usize, margins: Margins, buffer: &mut [u8]) -> Answer
+pub(crate) fn print_margins(
+    agents: usize,
+    margins: Margins,
+    buffer: &mut [u8],
+) -> Result<usize, Refusal>
     requires { agents ≤ most_agents }
-    ensures answer { result ≡ answered (filling (length buffer.old) (margins_text agents margins)) }
+    ensures answer { answer_of result ≡ map_answer length (filling (length buffer.old) (margins_text agents margins)) }
     ensures buffer { buffer.new ≡ after filled (filling (length buffer.old) (margins_text agents margins)) buffer.old }
 {
     let mut text = [0u8; LONGEST];
-    let length = put_accepted(&mut text, agents, margins);
-    fill(&text[..length], buffer)
+    let mut writer = Writer::new(&mut text);
+    put_accepted(&mut writer, agents, margins);
+    fill(writer.written(), buffer)
 }

@@ -3,8 +3,8 @@
 
 ghost use Rattle.std.specs.Prelude.{◌≡◌, length};
 ghost use Rattle.sheet.specs.Contents.{contents};
-ghost use Rattle.sheet.specs.Answers.{after};
-ghost use Rattle.writing.specs.Answered.{answered};
+ghost use Rattle.sheet.specs.Answers.{map_answer, after};
+ghost use Rattle.sheet.specs.Refusals.{answer_of};
 ghost use Rattle.writing.specs.Filled.{filled};
 ghost use Rattle.stated_truth.specs.Lines.{stated_in};
 ghost use Rattle.sheet_to_judgement.specs.TextJudged.{judgement_from};
@@ -13,44 +13,33 @@ ghost use Rattle.sheet_to_judgement.specs.internal.Printing.{printing_judgement}
 use crate::accepted::print_margins;
 use division_reading::{Stated, read_division};
 use judging::judge;
+use sheet::refusal::Refusal;
 use sheet::{Sheet, Table};
-use writing::Answer;
 
 pub mod accepted;
 
 // Judges a division of a sheet and prints the margins; refused as by `judge`, else with 10 where the buffer is shorter than the text.
-fn print_judged(table: Table, sheet: Sheet, stated: Stated, buffer: &mut [u8]) -> Answer
-    ensures answer { result ≡ answered (printing_judgement (contents sheet table) (stated_in sheet.agents stated) (length buffer.old)) }
+fn print_judged(
+    table: Table,
+    sheet: Sheet,
+    stated: Option<Stated>,
+    buffer: &mut [u8],
+) -> Result<usize, Refusal>
+    ensures answer { answer_of result ≡ map_answer length (printing_judgement (contents sheet table) (stated_in sheet.agents stated) (length buffer.old)) }
     ensures buffer { buffer.new ≡ after filled (printing_judgement (contents sheet table) (stated_in sheet.agents stated) (length buffer.old)) buffer.old }
 {
-    let judged = judge(table, sheet, stated);
-    let answer = judged.answer;
-    match answer {
-        judging::Answer::Refused(number) => Answer::Refused(number),
-        judging::Answer::Accepted => {
-            let margins = judged.margins;
-            print_margins(sheet.agents, margins, buffer)
-        }
-    }
+    let margins = judge(table, sheet, stated)?;
+    print_margins(sheet.agents, margins, buffer)
 }
 
 // Judges the division that stands behind the sheet of `text`, prints the margins into the lent buffer and answers the length printed, or answers
-// the number of the first reason to turn the text down and leaves the buffer as it is.
-pub fn judge_division(text: &[u8], buffer: &mut [u8]) -> Answer
-    ensures answer { result ≡ answered (judgement_from text.now (length buffer.old)) }
+// the first reason to turn the text down and leaves the buffer as it is.
+pub fn judge_division(text: &[u8], buffer: &mut [u8]) -> Result<usize, Refusal>
+    ensures answer { answer_of result ≡ map_answer length (judgement_from text.now (length buffer.old)) }
     ensures buffer { buffer.new ≡ after filled (judgement_from text.now (length buffer.old)) buffer.old }
 {
-    let front = reading::read_front(text);
-    let found = front.outcome;
-    let answer = found.answer;
-    match answer {
-        reading::Answer::Refused(number) => Answer::Refused(number),
-        reading::Answer::Accepted(sheet) => {
-            let rows = found.rows;
-            let table = reading::table(rows);
-            let behind = front.next;
-            let stated = read_division(text, behind, sheet.agents, sheet.items);
-            print_judged(table, sheet, stated, buffer)
-        }
-    }
+    let (front, behind) = reading::read_front(text)?;
+    let sheet = front.sheet;
+    let stated = read_division(text, behind, sheet);
+    print_judged(front.table, sheet, stated, buffer)
 }

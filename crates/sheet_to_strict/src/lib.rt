@@ -2,27 +2,19 @@
 #![tactic(auto)]
 
 ghost use Rattle.std.specs.Prelude.{◌≡◌, length};
-ghost use Rattle.sheet.specs.Answers.{after};
-ghost use Rattle.writing.specs.Answered.{answered};
+ghost use Rattle.sheet.specs.Answers.{map_answer, after};
+ghost use Rattle.sheet.specs.Refusals.{answer_of};
 ghost use Rattle.writing.specs.Filled.{filled};
 ghost use Rattle.sheet_to_strict.specs.Rewriting.{rewriting};
 
-use writing::Answer;
+use sheet::refusal::Refusal;
 
 // Writes the strict text of the sheet that `text` holds into the lent buffer and answers its length, or answers the number of the
 // first reason to turn the sheet down and leaves the buffer as it is.
-pub fn write_strict(text: &[u8], buffer: &mut [u8]) -> Answer
-    ensures answer { result ≡ answered (rewriting text.now (length buffer.old)) }
+pub fn write_strict(text: &[u8], buffer: &mut [u8]) -> Result<usize, Refusal>
+    ensures answer { answer_of result ≡ map_answer length (rewriting text.now (length buffer.old)) }
     ensures buffer { buffer.new ≡ after filled (rewriting text.now (length buffer.old)) buffer.old }
 {
-    let found = reading::read(text);
-    let answer = found.answer;
-    match answer {
-        reading::Answer::Refused(number) => Answer::Refused(number),
-        reading::Answer::Accepted(sheet) => {
-            let rows = found.rows;
-            let table = reading::table(rows);
-            strict_writing::write_sheet(table, sheet, buffer)
-        }
-    }
+    let read = reading::read(text)?;
+    strict_writing::write_sheet(read.table, read.sheet, buffer)
 }

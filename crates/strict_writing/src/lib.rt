@@ -2,15 +2,16 @@
 #![tactic(auto)]
 
 ghost use Rattle.std.specs.Prelude.{◌≡◌, length};
-ghost use Rattle.sheet.specs.Answers.{after};
+ghost use Rattle.sheet.specs.Answers.{map_answer, after};
+ghost use Rattle.sheet.specs.Refusals.{answer_of};
 ghost use Rattle.sheet.specs.Contents.{contents};
-ghost use Rattle.writing.specs.Answered.{answered};
 ghost use Rattle.writing.specs.Filled.{filling, filled};
 ghost use Rattle.strict_text.specs.StrictText.{strict_text};
 
 use crate::lines::put_sheet;
+use sheet::refusal::Refusal;
 use sheet::{Sheet, Table};
-use writing::Answer;
+use writing::Writer;
 
 pub mod lines;
 
@@ -28,19 +29,22 @@ fn sheet_length(table: Table, sheet: Sheet) -> usize
     ensures { result ≡ length (strict_text (contents sheet table)) }
 {
     let mut place = [0u8; LONGEST_OF_ANY];
-    put_sheet(&mut place, 0, table, sheet)
+    let mut writer = Writer::new(&mut place);
+    put_sheet(&mut writer, table, sheet);
+    writer.at
 }
 
 // Writes the strict text of a sheet from the front of the buffer; refused with 10 where the buffer is shorter than the
 // text, and then the buffer keeps all its bytes.
-pub fn write_sheet(table: Table, sheet: Sheet, buffer: &mut [u8]) -> Answer
-    ensures answer { result ≡ answered (filling (length buffer.old) (strict_text (contents sheet table))) }
+pub fn write_sheet(table: Table, sheet: Sheet, buffer: &mut [u8]) -> Result<usize, Refusal>
+    ensures answer { answer_of result ≡ map_answer length (filling (length buffer.old) (strict_text (contents sheet table))) }
     ensures buffer { buffer.new ≡ after filled (filling (length buffer.old) (strict_text (contents sheet table))) buffer.old }
 {
     let length = sheet_length(table, sheet);
     if buffer.len() < length {
-        return Answer::Refused(10);
+        return Err(Refusal::BufferTooShort);
     }
-    put_sheet(buffer, 0, table, sheet);
-    Answer::Written(length)
+    let mut writer = Writer::new(buffer);
+    put_sheet(&mut writer, table, sheet);
+    Ok(length)
 }

@@ -1,34 +1,29 @@
--- A text behind a text is one text; one byte where there is room and where there is none; a text with room is a run of stores;
--- the buffer stays as long as it was, and the text ends within it. Assumes nothing.
+-- A text behind a text is one text; a text that has room is a run of stores; a writer leaves the buffer as long as it was, and what it
+-- writes from the front ends within it. Assumes nothing.
 use mathlib.Core.Path.{◌≡◌, refl, sym, ap, subst, ◌∙◌}
 use mathlib.Core.Bool.{Bool, true, false}
 use mathlib.Core.List.{List, [], ◌∷◌, ◌++◌, foldl, foldl-append}
-use Prim.Native.Nat.{ℕ, suc, ◌+◌, ◌≤◌, ◌<◌}
+use Prim.Native.Nat.{ℕ, suc, ◌+◌, ◌≤◌}
 use native.Mathlib.Nat.{add-zero}
 use native.Mathlib.Numerals.{add-one}
 use native.Mathlib.Omega.{arith}
 use lib.Dec.{ltb}
 use lib.ListN.{length, set, length-set}
 use lib.Seq.{sets}
-use borrow.Author.Tests.{lt-ltb, le-ltb, ltb-true}
-use Rattle.writing.specs.Output.{Output, output, with_byte, Written}
+use borrow.Author.Tests.{lt-ltb, ltb-true}
+use Rattle.writing.specs.declared.Writer.{Writer}
+use Rattle.writing.specs.Output.{Output, output, with_byte}
+use Rattle.writing.specs.WithText.{output_of, with_output, with_text, Writes}
 
 infixl 30 ◌then◌
 -- nothing is written
-pub nothing : {p : Output} → Written p [] p
+pub nothing : {w : Writer} → Writes w [] w
 nothing = record { bytewise = refl }
 
 -- a text is written behind a text
-pub ◌then◌ : {p q r : Output} {s t : List ℕ} → Written p s q → Written q t r → Written p (s ++ t) r
-◌then◌ {p} {q} {r} {s} {t} first second =
-    record { bytewise = second.bytewise ∙ ap (λ x. foldl with_byte x t) first.bytewise ∙ sym (foldl-append with_byte p s t) }
-
--- a byte where there is room, and where there is none
-pub byte-stored : (old : List ℕ) (at byte : ℕ) → at < length old → Written (output old at) (byte ∷ []) (output (set old at byte) (at + 1))
-byte-stored old at byte room = record { bytewise = rw (lt-ltb at (length old) room) }
-
-pub byte-left-out : (old : List ℕ) (at byte : ℕ) → length old ≤ at → Written (output old at) (byte ∷ []) (output old at)
-byte-left-out old at byte full = record { bytewise = rw (le-ltb at (length old) full) }
+pub ◌then◌ : {u v w : Writer} {s t : List ℕ} → Writes u s v → Writes v t w → Writes u (s ++ t) w
+◌then◌ {u} {v} {w} {s} {t} first second =
+    record { bytewise = second.bytewise ∙ ap (λ x. with_text x t) first.bytewise ∙ ap (λ o. with_output u o) (sym (foldl-append with_byte (output_of u) s t)) }
 
 -- a text that has room is a run of stores
 pub foldl-sets : (old : List ℕ) (at : ℕ) (text : List ℕ) → at + length text ≤ length old → foldl with_byte (output old at) text ≡ output (sets old at text) (at + length text)
@@ -61,6 +56,7 @@ next-foldl-with_byte : (p : Output) (text : List ℕ) → p.next ≤ length p.by
 next-foldl-with_byte p [] inside = inside
 next-foldl-with_byte p (byte ∷ text) inside = next-foldl-with_byte (with_byte p byte) text (next-with_byte p byte inside)
 
-pub written-within : {old text new : List ℕ} {next : ℕ} → Written (output old 0) text (output new next) → next ≤ length new
-written-within {old} {text} {new} {next} w =
-    subst (λ p. p.next ≤ length p.bytes) (sym w.bytewise) (next-foldl-with_byte (output old 0) text (omega arith))
+pub written-within : {u w : Writer} {text : List ℕ} → Writes u text w → u.at ≡ 0 → w.at ≤ length w.buffer.now
+written-within {u} {w} {text} written front =
+    let bytewise = ap output_of written.bytewise ∙ ap (λ at. foldl with_byte (output u.buffer.now at) text) front in
+    subst (λ p. p.next ≤ length p.bytes) (sym bytewise) (next-foldl-with_byte (output u.buffer.now 0) text (omega arith))

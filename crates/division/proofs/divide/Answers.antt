@@ -1,80 +1,87 @@
 -- The table is refused as its shares are, and else divided; what is promised holds of every answer.
 use mathlib.Core.Path.{◌≡◌, sym, ap, ◌∙◌}
-use Prim.Native.Nat.{ℕ, ◌≤◌, min}
+use Prim.Native.Nat.{ℕ, min}
 use native.Mathlib.Omega.{arith}
+use Rattle.std.specs.Prelude.{Ok, Err}
+use Rattle.std.proofs.lemmas.Result.{err_from_is_err_and}
 use Rattle.sheet.specs.Limits.{most_agents, CountsWithin}
-use Rattle.sheet.specs.Answers.{Answer, accepted}
+use Rattle.sheet.specs.Answers.{map_answer}
+use Rattle.sheet.specs.Refusals.{number, answer_of}
 use Rattle.sheet.specs.Contents.{Contents, contents}
-use Rattle.growth.specs.Growth.{growths}
+use Rattle.sheet.specs.declared.refusal.Refusal.{Refusal}
+use Rattle.sheet.proofs.Answering.{refused-of_err}
 use Rattle.shares.specs.Shares.{sharing_within}
-use Rattle.shares.specs.Outcome as shares
-use Rattle.shares.proofs.Allowance.{sharing_within-enough}
-use Rattle.shares.proofs.Outcomes.{answered-refused, answered-shared-within, shares-within, cuts-within}
+use Rattle.shares.specs.Stored as shares
+use Rattle.shares.specs.declared.Shares.{Shares}
+use Rattle.shares.proofs.Answered.{answered-enough, answered-without, answered-known, answered-cuts}
 use Rattle.terms.specs.Terms.{terms_for}
+use Rattle.terms.specs.declared.Terms.{Terms}
 use Rattle.terms.proofs.Allowed.{terms_for-allowed}
-use Rattle.rounds.specs.Division.{Division, division_by_terms, answer}
+use Rattle.rounds.specs.Division.{division_by_terms, answer}
 use Rattle.rounds.proofs.Answers.{answer-refused, answer-within-limits}
-use Rattle.division.specs.Outcome.{outcome}
-use Rattle.division.specs.Promise.{Promised}
-use Rattle.division.specs.declared.Outcome.{Outcome}
+use Rattle.division.specs.Stored.{stored}
+use Rattle.division.specs.declared.Division.{Division as StoredDivision}
 use Rattle.division.proofs.Theorems.{promised}
 use Rattle.division.proofs.divide.Goals as goal
-use Rattle.division.proofs.divide.Goals.{After-refuse, After-terms_for, In-Shared}
 
--- what equals the answer of the definition keeps what is promised
-answered : (sheet : Contents) (allowance : ℕ) (a : Answer Division) (r : Outcome) → r ≡ outcome a → answer sheet allowance ≡ a
-    → (r ≡ outcome (answer sheet allowance)) × Promised sheet allowance r
-answered sheet allowance a r told is =
-    let e : r ≡ outcome (answer sheet allowance) = told ∙ ap outcome (sym is) in
-    (e, rw e (promised sheet allowance))
+module _ (sheet : Contents) (allowance : ℕ) where
+  -- the table is refused as its shares are
+  refusal-answered : (e : Refusal) → answer_of {A = Shares} (Err e) ≡ map_answer shares.stored (sharing_within sheet allowance) → answer_of {A = StoredDivision} (Err e) ≡ map_answer stored (answer sheet allowance)
+  refusal-answered e told = ap (map_answer stored) (sym (answer-refused sheet allowance (number e) (refused-of_err shares.stored (sharing_within sheet allowance) e told)))
 
--- shares are answered only where the counts are within the limits and the allowance is enough
-shared-within : (c : In-Shared) → let a = c.args in CountsWithin a.sheet.agents a.sheet.items × (growths a.sheet.agents a.sheet.items ≤ a.allowance)
-shared-within c =
+  module _ (own : Shares) (told : answer_of (Ok own) ≡ map_answer shares.stored (sharing_within sheet allowance)) where
+    -- the counts are within the limits
+    counts : CountsWithin sheet.agents sheet.items
+    counts = (answered-enough sheet own allowance told).0
+
+    -- the terms are those of document 01
+    terms-are : (terms : Terms) → terms ≡ terms_for (min sheet.agents most_agents) → terms ≡ terms_for sheet.agents
+    terms-are terms e =
+        let agents : min sheet.agents most_agents ≡ sheet.agents = omega (arith, counts.few) in
+        e ∙ ap terms_for agents
+
+    -- what is divided is what the definition accepts
+    division-answered : (terms : Terms) (d : StoredDivision) → terms ≡ terms_for (min sheet.agents most_agents) → d ≡ stored (division_by_terms sheet terms)
+        → answer_of (Ok d) ≡ map_answer stored (answer sheet allowance)
+    division-answered terms d e divided =
+        let (within, enough) = answered-enough sheet own allowance told in
+        ap (λ d. answer_of (Ok d)) (divided ∙ ap (λ terms. stored (division_by_terms sheet terms)) (terms-are terms e))
+        ∙ ap (map_answer stored) (sym (answer-within-limits sheet allowance within enough))
+
+pub returns-in_err-own-clause-answered : goal.returns-in_err-own-clause-answered
+returns-in_err-own-clause-answered c =
     let a = c.args in
-    answered-shared-within (contents a.sheet a.table) a.allowance (sym (ap (λ o. o.answer) c.share_each_within-own.ensures.0) ∙ c.in-Shared.is)
+    let p = err_from_is_err_and c.from_residual.result c.from_residual.ensures.1 in
+    rw (p.1, p.2) (refusal-answered (contents a.sheet a.table) a.allowance _ c.in_err-own.ensures.answer)
 
--- the terms are those of document 01
-terms-are : (c : After-terms_for) → CountsWithin c.args.sheet.agents c.args.sheet.items → c.terms_for.result ≡ terms_for c.args.sheet.agents
-terms-are c counts =
-    let agents : min c.args.sheet.agents most_agents ≡ c.args.sheet.agents = omega (arith, counts.few) in
-    c.terms_for.ensures ∙ ap terms_for agents
-
-refused-answered : (c : After-refuse) → let sheet = contents c.args.sheet c.args.table in
-    (c.refuse.result ≡ outcome (answer sheet c.args.allowance)) × Promised sheet c.args.allowance c.refuse.result
-refused-answered c =
+pub returns-in_err-own-clause-promised : goal.returns-in_err-own-clause-promised
+returns-in_err-own-clause-promised c =
     let a = c.args in
-    let sheet = contents a.sheet a.table in
-    let number = c.in-Refused.number in
-    let refused-so = answered-refused (sharing_within sheet a.allowance) number (sym (ap (λ o. o.answer) c.share_each_within-own.ensures.0) ∙ c.in-Refused.is) in
-    answered sheet a.allowance _ _ c.refuse.ensures (answer-refused sheet a.allowance number refused-so)
+    let p = err_from_is_err_and c.from_residual.result c.from_residual.ensures.1 in
+    rw (p.1, p.2) (promised (contents a.sheet a.table) a.allowance _ (refusal-answered (contents a.sheet a.table) a.allowance _ c.in_err-own.ensures.answer))
 
 pub divide_shared-requires : goal.divide_shared-requires
 divide_shared-requires c =
     let a = c.args in
-    let own = c.share_each_within-own in
-    let (counts, enough) = shared-within (goal.at.divide_shared-requires c).In-Shared in
-    let is_shared = own.ensures.0 ∙ ap shares.outcome (sharing_within-enough (contents a.sheet a.table) a.allowance enough) in
+    let sheet = contents a.sheet a.table in
+    let own = c.in_ok-own.own in
+    let told = c.in_ok-own.ensures.answer in
+    let (within, enough) = answered-enough sheet own a.allowance told in
+    let without = answered-without sheet own a.allowance told in
     record {
-      known =
-          record {
-            counts = counts;
-            each = ap (λ o. o.shares) is_shared ∙ shares-within (contents a.sheet a.table) counts;
-            small = own.ensures.1;
-          };
-      own_cuts = ap (λ o. o.cuts) is_shared ∙ cuts-within (contents a.sheet a.table) counts;
-      allowed = rw (terms-are (goal.at.divide_shared-requires c).After-terms_for counts) (terms_for-allowed a.sheet.agents counts.few);
+      known = answered-known sheet own without c.in_ok-own.ensures.bound;
+      own_cuts = answered-cuts sheet own without;
+      allowed = rw (terms-are sheet a.allowance own told c.terms_for.result c.terms_for.ensures) (terms_for-allowed a.sheet.agents within.few);
       enough = enough;
     }
 
-pub returns-in-Refused : goal.returns-in-Refused
-returns-in-Refused c = let (e, kept) = refused-answered c in record { answered = e; promised = kept }
+pub returns-clause-answered : goal.returns-clause-answered
+returns-clause-answered c =
+    let a = c.args in
+    division-answered (contents a.sheet a.table) a.allowance c.in_ok-own.own c.in_ok-own.ensures.answer c.terms_for.result c.divide_shared.result c.terms_for.ensures c.divide_shared.ensures
 
-pub returns-in-Shared : goal.returns-in-Shared
-returns-in-Shared c =
+pub returns-clause-promised : goal.returns-clause-promised
+returns-clause-promised c =
     let a = c.args in
     let sheet = contents a.sheet a.table in
-    let (counts, enough) = shared-within (goal.at.returns-in-Shared c).In-Shared in
-    let told = c.divide_shared.ensures ∙ ap (λ terms. outcome (accepted (division_by_terms sheet terms))) (terms-are (goal.at.returns-in-Shared c).After-terms_for counts) in
-    let (e, kept) = answered sheet a.allowance _ _ told (answer-within-limits sheet a.allowance counts enough) in
-    record { answered = e; promised = kept }
+    promised sheet a.allowance _ (division-answered sheet a.allowance c.in_ok-own.own c.in_ok-own.ensures.answer c.terms_for.result c.divide_shared.result c.terms_for.ensures c.divide_shared.ensures)

@@ -6,16 +6,15 @@ use Rattle.lists.specs.Lists.{range}
 use Rattle.lists.proofs.ranges.Ranges.{range-bounds, length-range}
 use Rattle.sheet.specs.Limits.{most_agents, most_items}
 use Rattle.sheet.specs.Sets.{items_of, set_of}
-use Rattle.shares.specs.declared.Cut.{Cut}
 use Rattle.matching.specs.Matching.{cutter_of}
 use Rattle.matching.proofs.Cutter.{cutter_of-mem}
 use Rattle.serving.specs.Serving.{agents_in}
 use Rattle.division.specs.internal.Left.{instance_from, Ready}
 use Rattle.division.specs.internal.Allocation.{empty_allocation, allotted_all}
 use Rattle.division.specs.declared.dividing.Allocation.{Allocation}
-use Rattle.division.proofs.rounds.Accepted.{up_to-is, all_agents_set, all_items, agents_in-all, ready-all, own-cut, placed_sets, placed_cutters, allotted-accepted, outcome-accepted}
+use Rattle.division.proofs.rounds.Accepted.{up_to-is, all_agents_set, all_items, agents_in-all, ready-all, own-cut, placed_sets, placed_cutters, allotted-accepted, stored-accepted}
 use Rattle.division.proofs.divide_shared.Goals as goal
-use Rattle.division.proofs.divide_shared.Goals.{After-all_items, After-all_items-all, After-cutter_of-cutter, After-divide_left-allocation}
+use Rattle.division.proofs.divide_shared.Goals.{After-all_items, After-all_items-all, After-cutter_of-cutter, After-divide_left}
 
 -- the set of all agents, and that of all items
 agents_are : (c : After-all_items-all) → c.all_items-all.result ≡ all_agents_set c.requires
@@ -34,35 +33,40 @@ cutter-mem c =
     subst⁻¹ (λ k. Mem k (range 1 n)) (c.cutter_of-cutter.ensures ∙ ap cutter_of all) (cutter_of-mem (range 1 n) (omega (arith, length-range 1 n, c.requires.known.counts.some)))
 
 -- what the rounds hand out
-handed : (c : After-divide_left-allocation)
-    → (c.divide_left-allocation.result.bundles ≡ placed_sets c.requires)
-    × (c.divide_left-allocation.result.cutters ≡ placed_cutters c.requires)
-handed c =
+handed : (c : After-divide_left) → c.all_items-all.result ≡ all_agents_set c.requires → c.all_items.result ≡ all_items c.requires
+    → (c.divide_left.result.bundles ≡ placed_sets c.requires)
+    × (c.divide_left.result.cutters ≡ placed_cutters c.requires)
+handed c agents items =
     let a = c.args in
     let run : ℕ → ℕ → Allocation → Allocation = λ left set. allotted_all (instance_from a.terms a.table a.own.shares) (agents_in left) (items_of set) in
     let out =
-    c.divide_left-allocation.ensures
-    ∙ ap (run c.all_items-all.result c.all_items.result) c.nothing_handed_out-nothing.ensures
-    ∙ ap₂ (λ left set. run left set empty_allocation) (agents_are c.before.before.before.before.before.before) (items_are c.before) in
+    c.divide_left.ensures
+    ∙ ap (run c.all_items-all.result c.all_items.result) c.nothing_handed_out.ensures
+    ∙ ap₂ (λ left set. run left set empty_allocation) agents items in
     let accepted = allotted-accepted c.requires in
     (ap (λ r. r.bundles) out ∙ accepted.0, ap (λ r. r.cutters) out ∙ accepted.1)
 
-pub overflow_sub-own_cut : goal.overflow_sub-own_cut
-overflow_sub-own_cut c = (range-bounds 1 c.args.sheet.agents (cutter-mem c)).0
+pub overflow_sub-cutter : goal.overflow_sub-cutter
+overflow_sub-cutter c = (range-bounds 1 c.args.sheet.agents (cutter-mem (goal.at.overflow_sub-cutter c).After-cutter_of-cutter)).0
 
 pub bounds-cuts-cutter : goal.bounds-cuts-cutter
-bounds-cuts-cutter c = omega (arith, range-bounds 1 c.args.sheet.agents (cutter-mem c), c.requires.known.counts.few)
+bounds-cuts-cutter c =
+    omega (arith, range-bounds 1 c.args.sheet.agents (cutter-mem (goal.at.bounds-cuts-cutter c).After-cutter_of-cutter), c.requires.known.counts.few)
 
-pub divide_left-allocation-requires : goal.divide_left-allocation-requires
-divide_left-allocation-requires c =
+pub divide_left-requires : goal.divide_left-requires
+divide_left-requires c =
     let a = c.args in
-    let none : Cut = record { partition = [] } in (
-      rw (agents_are (goal.at.divide_left-allocation-requires c).After-all_items-all, items_are c) (subst⁻¹ (Ready a.terms a.own.shares a.allowance (set_of (range 1 a.sheet.agents)) (set_of (range 1 a.sheet.items))) c.nothing_handed_out-nothing.ensures
+    let at = goal.at.divide_left-requires c in
+    let agents = agents_are at.After-all_items-all in
+    let items = items_are at.After-all_items in (
+      rw (agents, items) (subst⁻¹ (Ready a.terms a.own.shares a.allowance (set_of (range 1 a.sheet.agents)) (set_of (range 1 a.sheet.items))) c.nothing_handed_out.ensures
           (ready-all c.requires)),
       c.cutter_of-cutter.ensures,
-      rw (agents_are (goal.at.divide_left-allocation-requires c).After-all_items-all, items_are c) (own-cut c.requires none c.cutter_of-cutter.result (cutter-mem (goal.at.divide_left-allocation-requires c).After-cutter_of-cutter)),
+      rw (agents, items) (own-cut c.requires [] c.cutter_of-cutter.result (cutter-mem at.After-cutter_of-cutter)),
     )
 
 pub returns : goal.returns
 returns c =
-    outcome-accepted c.requires c.assess-assessed.ensures (handed (goal.at.returns c).After-divide_left-allocation).0 (handed (goal.at.returns c).After-divide_left-allocation).1
+    let at = goal.at.returns c in
+    let (sets, cutters) = handed at.After-divide_left (agents_are at.After-all_items-all) (items_are at.After-all_items) in
+    stored-accepted c.requires c.assess-grade.ensures sets cutters

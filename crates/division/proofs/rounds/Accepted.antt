@@ -12,15 +12,13 @@ use Rattle.lists.specs.Lists.{range, nth, padded}
 use Rattle.lists.proofs.ranges.Ranges.{length-range, range-sublist}
 use Rattle.lists.proofs.places.Places.{nth-padded-range}
 use Rattle.sheet.specs.Limits.{most_agents, most_items, set_bits, CountsWithin}
-use Rattle.sheet.specs.Answers.{accepted}
 use Rattle.sheet.specs.Sets.{items_of, set_of}
 use Rattle.sheet.specs.Contents.{sheet_of}
 use Rattle.sheet.proofs.sets.Sets.{items-set_of}
 use Rattle.sheet.proofs.sets.Ranges.{set_of-below}
 use Rattle.cut.specs.Outcome.{placed}
-use Rattle.shares.specs.Outcome.{blank_cut}
-use Rattle.shares.specs.declared.Cut.{Cut}
-use Rattle.shares.specs.declared.Outcome.{Outcome as SharesOutcome}
+use Rattle.shares.specs.Stored.{blank_cut}
+use Rattle.shares.specs.declared.Shares.{Shares}
 use Rattle.shares.proofs.EachAgent.{cut_at, cuts-range}
 use Rattle.grades.specs.Assessment.{assessment_in}
 use Rattle.grades.proofs.InPlaces.{assessment_in-by-terms}
@@ -31,12 +29,11 @@ use Rattle.serving.proofs.round.AgentsLeft.{agents_in-items}
 use Rattle.terms.specs.declared.Terms.{Terms}
 use Rattle.rounds.specs.Division.{instance_of_sheet, all_rounds, allocation, division_of, division_by_terms}
 use Rattle.rounds.proofs.Allocation.{sound, allocation-sublist}
-use Rattle.division.specs.Outcome.{outcome}
+use Rattle.division.specs.Stored.{stored}
 use Rattle.division.specs.internal.Left.{instance_from, cut_left, Ready}
 use Rattle.division.specs.internal.Allocation.{empty_allocation, allotted_all}
 use Rattle.division.specs.internal.Shared.{IsShared}
-use Rattle.division.specs.declared.Answer.TheVariants.{Divided}
-use Rattle.division.proofs.Outcomes.{items-set_of-bundle}
+use Rattle.division.proofs.Answered.{items-set_of-bundle}
 use Rattle.division.proofs.rounds.SameRounds.{rounds-placed}
 use Rattle.division.proofs.rounds.AllRounds.{get_d-set_of, allotted-bundles, allotted-cutters-all}
 
@@ -58,7 +55,7 @@ module _ (k most : ℕ) (few : k ≤ most) (small : most ≤ most_items) where
   pub up_to-items : items_of (set_of (range 1 k)) ≡ range 1 k
   up_to-items = items-set_of (range 1 k) (range-sublist 1 k set_bits (omega arith))
 
-module _ {n m : ℕ} {table : List (List ℕ)} {terms : Terms} {allowance : ℕ} {own : SharesOutcome} (shared : IsShared (sheet_of n m table) terms allowance own) where
+module _ {n m : ℕ} {table : List (List ℕ)} {terms : Terms} {allowance : ℕ} {own : Shares} (shared : IsShared (sheet_of n m table) terms allowance own) where
   -- the counts are within the limits
   counts : CountsWithin n m
   counts = shared.known.counts
@@ -94,10 +91,10 @@ module _ {n m : ℕ} {table : List (List ℕ)} {terms : Terms} {allowance : ℕ}
       }
 
   -- each agent's own cut is the partition of the first round, where that agent cuts
-  pub own-cut : (other : Cut) (cutter : ℕ) → Mem cutter (range 1 n)
-      → (nth other own.cuts cutter).partition ≡ placed (cut_left table cutter (agents_in all_agents_set) (items_of all_items))
+  pub own-cut : (other : List ℕ) (cutter : ℕ) → Mem cutter (range 1 n)
+      → nth other own.cuts cutter ≡ placed (cut_left table cutter (agents_in all_agents_set) (items_of all_items))
   own-cut other cutter i =
-      rw (shared.own_cuts, cuts-range n m table, agents_in-all, items_of-all, length-range 1 n) (ap (λ c. c.partition) (nth-padded-range most_agents blank_cut other (cut_at n m table) n i))
+      rw (shared.own_cuts, cuts-range n m table, agents_in-all, items_of-all, length-range 1 n) (nth-padded-range most_agents blank_cut other (cut_at n m table) n i)
 
   -- the bundles of the division
   abbrev bundles : List (List ℕ)
@@ -129,12 +126,12 @@ module _ {n m : ℕ} {table : List (List ℕ)} {terms : Terms} {allowance : ℕ}
   unfolding items_of
   bundle-read i = get_or-map items_of placed_sets (i - 1) 0 ∙ items_at (i - 1)
 
-  -- the code's answer, from what the rounds hand out and what that comes to
-  pub outcome-accepted : {r : Assessed} {sets cutters : List ℕ} → r ≡ assessed (assessment_in (sheet_of n m table) terms own.shares sets) → sets ≡ placed_sets → cutters ≡ placed_cutters
-      → record { answer = Divided; grade = r.grade; worths = r.worths; bundles = sets; shares = own.shares; cuts = own.cuts; cutters = cutters }
-      ≡ outcome (accepted (division_by_terms (sheet_of n m table) terms))
+  -- the code's division, from what the rounds hand out and what that comes to
+  pub stored-accepted : {r : Assessed} {sets cutters : List ℕ} → r ≡ assessed (assessment_in (sheet_of n m table) terms own.shares sets) → sets ≡ placed_sets → cutters ≡ placed_cutters
+      → record { grade = r.grade; worths = r.worths; bundles = sets; shares = own.shares; cuts = own.cuts; cutters = cutters }
+      ≡ stored (division_by_terms (sheet_of n m table) terms)
   unfolding division_of
-  outcome-accepted told same-sets same-cutters =
+  stored-accepted told same-sets same-cutters =
       let e =
       told
       ∙ ap (λ sets. assessed (assessment_in (sheet_of n m table) terms own.shares sets)) same-sets

@@ -9,7 +9,7 @@ use Rattle.sheet.specs.Contents.{sheet_of}
 use Rattle.sheet.proofs.valuing.Tables.{values-profile}
 use Rattle.maximin.specs.Share.{maximin_partition}
 use Rattle.shares.specs.Known.{SharesIn}
-use Rattle.shares.proofs.Outcomes.{nth-shares-known}
+use Rattle.shares.proofs.Answered.{nth-shares-known}
 use Rattle.terms.specs.declared.Terms.{Terms}
 use Rattle.rounds.specs.Round.{rounds}
 use Rattle.rounds.specs.Division.{instance_of_sheet, all_rounds}

@@ -5,4 +5,4 @@ use Rattle.exact_printing.proofs.put_exact.Goals as goal
 pub returns : goal.returns
 unfolding sets_text
 returns c =
-    c.put_bytes-opened.ensures then c.put_bundles-listed.ensures then c.put_bytes.ensures
+    c.bytes.ensures then c.put_bundles.ensures then c.bytes-2.ensures

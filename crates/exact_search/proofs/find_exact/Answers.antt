@@ -1,25 +1,22 @@
-use mathlib.Core.Path.{sym, ap, ◌∙◌}
+use Rattle.std.proofs.lemmas.Result.{err_from_is_err_and}
+use Rattle.sheet.specs.Refusals.{number}
 use Rattle.sheet.specs.Contents.{contents}
+use Rattle.sheet.proofs.Answering.{refused-of_err}
 use Rattle.shares.specs.Shares.{sharing}
-use Rattle.shares.proofs.Outcomes.{answered-refused, answered-shared, shares-within}
+use Rattle.shares.specs.Stored.{stored}
+use Rattle.shares.proofs.Answered.{answered-known}
 use Rattle.exact_division.proofs.Answers.{searching-refused}
 use Rattle.exact_search.proofs.Searched.{searched-refused}
 use Rattle.exact_search.proofs.find_exact.Goals as goal
 
 pub search-requires : goal.search-requires
 search-requires c =
-    let own = c.share_each-own in
-    let a = c.args in
-    let counts = answered-shared (contents a.sheet a.table) (sym (ap (λ o. o.answer) own.ensures.0) ∙ c.in-Shared.is) in
-    record {
-      counts = counts;
-      each = ap (λ o. o.shares) own.ensures.0 ∙ shares-within (contents a.sheet a.table) counts;
-      small = own.ensures.1;
-    }
+    let own = c.in_ok-own in
+    answered-known (contents c.args.sheet c.args.table) own.own own.ensures.answer own.ensures.bound
 
-pub returns-in-Refused : goal.returns-in-Refused
-returns-in-Refused c =
-    let a = c.args in
-    let number = c.in-Refused.number in
-    let refused-so = answered-refused (sharing (contents a.sheet a.table)) number (sym (ap (λ o. o.answer) c.share_each-own.ensures.0) ∙ c.in-Refused.is) in
-    searched-refused (contents a.sheet a.table) number _ (searching-refused (contents a.sheet a.table) number refused-so) c.refuse.ensures
+pub returns-in_err-own : goal.returns-in_err-own
+returns-in_err-own c =
+    let sheet = contents c.args.sheet c.args.table in
+    let e = c.in_err-own.field-0.0 in
+    let p = err_from_is_err_and c.from_residual.result c.from_residual.ensures.1 in
+    rw (p.1, p.2) (searched-refused sheet e (searching-refused sheet (number e) (refused-of_err stored (sharing sheet) e c.in_err-own.ensures.answer)))

@@ -1,11 +1,11 @@
 use mathlib.Core.Path.{◌≡◌, sym, ap, ◌∙◌}
-use Rattle.std.specs.Prelude.{None, Some}
 use Prim.Native.Nat.{min}
 use native.Mathlib.Omega.{arith}
 use Rattle.std.proofs.lemmas.Result.{err_from_is_err_and}
 use Rattle.sheet.specs.Limits.{most_agents}
-use Rattle.sheet.specs.Refusals.{number}
+use Rattle.std.specs.Prelude.{Some, None}
 use Rattle.sheet.specs.declared.refusal.Refusal.TheVariants.{DivisionMalformed}
+use Rattle.sheet.specs.Refusals.{number}
 use Rattle.sheet.specs.Answers.{map_answer}
 use Rattle.sheet.specs.Contents.{contents}
 use Rattle.sheet.proofs.Answering.{refused-of_err}
@@ -47,15 +47,17 @@ returns-in_err-own c =
 pub returns-in_err-division : goal.returns-in_err-division
 returns-in_err-division c =
     let sheet = contents c.args.sheet c.args.table in
-    let p = err_from_is_err_and c.from_residual-in_err-division.result c.from_residual-in_err-division.ensures.1 in
-    let none = c.in_err-division.ensures.ok_part in
-    let reason : c.in_err-division.field-0.0 ≡ DivisionMalformed = cc (rw none at c.in_err-division.ensures.value) in
     let counts = answered-counts sheet c.in_ok-own.own c.in_ok-own.ensures.answer in
+    let p = err_from_is_err_and c.from_residual-in_err-division.result c.from_residual-in_err-division.ensures.1 in
+    let none : c.args.division ≡ None = grind arith in
+    let reason : c.in_err-division.field-0.0 ≡ DivisionMalformed = grind arith in
     rw (p.1, p.2, reason, none) (sym (ap (map_answer stored) (judging-within sheet (terms_for c.args.sheet.agents) None counts)))
 
 pub returns : goal.returns
 returns c =
     let sheet = contents c.args.sheet c.args.table in
+    let some : c.args.division ≡ Some c.in_ok-division.division = grind arith in
+    let told = terms-told (goal.at.returns c).After-terms_for-terms in
     c.judge_shared.ensures
-    ∙ ap (λ terms. map_answer stored (judging_by sheet terms (stated_in c.args.sheet.agents (Some c.in_ok-division.division)))) (terms-told (goal.at.returns c).After-terms_for-terms)
-    ∙ ap (λ stated. map_answer stored (judging_by sheet (terms_for c.args.sheet.agents) (stated_in c.args.sheet.agents stated))) (sym c.in_ok-division.ensures.ok_part)
+    ∙ ap (λ terms. map_answer stored (judging_by sheet terms (stated_in c.args.sheet.agents (Some c.in_ok-division.division)))) told
+    ∙ ap (λ d. map_answer stored (judging_by sheet (terms_for c.args.sheet.agents) (stated_in c.args.sheet.agents d))) (sym some)

@@ -1,7 +1,7 @@
 use mathlib.Core.Path.{◌≡◌, sym, ap, ap₂, ◌∙◌}
 use mathlib.Core.Bool.{Bool, true}
 use mathlib.Core.List.{List, [], map, Memᴰ as Mem}
-use Rattle.std.specs.Prelude.{Some}
+use Rattle.std.specs.Prelude.{Option, Some}
 use Prim.Native.Nat.{ℕ, min}
 use native.Mathlib.Omega.{arith}
 use lib.IntN.{ℤ, pos}
@@ -15,7 +15,7 @@ use Rattle.grades.proofs.InPlaces.{assessment_in-by-terms}
 use Rattle.grading.specs.Assessed.{assessed}
 use Rattle.division_reading.specs.Stated.{Stated}
 use Rattle.stated_truth.specs.Truth.{bundles_of, bundles_and_cuts, of_sheet, each_in_one, figures_true}
-use Rattle.stated_truth.specs.Lines.{stated_of, sets_and_cuts, figures_true_by}
+use Rattle.stated_truth.specs.Lines.{stated_of, stated_in, sets_and_cuts, figures_true_by}
 use Rattle.stated_truth.specs.Judging.{judging_by, judging_read}
 use Rattle.stated_truth.proofs.Verdicts.{judging-within, judged-off-sheet, judged-not-once, judged-false, judged-true}
 use Rattle.judging.specs.Stored.{stored}
@@ -26,6 +26,10 @@ use Rattle.judging.proofs.judge_shared.Goals.{After-figures_true-correct}
 -- the sheet
 abbrev sheet_in : After-figures_true-correct → Contents
 sheet_in s = contents s.args.sheet s.args.table
+
+-- what is stated of it, as it is handed over
+abbrev stated_at : After-figures_true-correct → Option Stated
+stated_at s = stated_in s.args.sheet.agents (Some s.args.division)
 
 -- what the lines state
 abbrev division : After-figures_true-correct → Stated
@@ -97,35 +101,39 @@ figures-told c =
     ∙ sym c.figures_true-correct.ensures
 
 -- the answer is that on what is stated
-answer-told : (c : After-figures_true-correct) → judging_by (sheet_in c) c.args.terms (Some (division c)) ≡ answer c
-answer-told c = judging-within (sheet_in c) c.args.terms (Some (division c)) c.requires.0.counts
+answer-read : (c : After-figures_true-correct) → judging_by (sheet_in c) c.args.terms (stated_at c) ≡ answer c
+answer-read c = judging-within (sheet_in c) c.args.terms (stated_at c) c.requires.0.counts
+
+-- each item is in just one bundle
+once : (c : After-figures_true-correct) → c.all_in_one-once.result ≡ true → bundles_and_cuts (each_in_one c.args.sheet.items) (division c) ≡ true
+once c e = in-one-told c ∙ e
 
 pub returns-then-not-named : goal.returns-then-not-named
 returns-then-not-named c =
     let t = (goal.at.returns-then-not-named c).After-figures_true-correct in
     let out = of-sheet-told t ∙ c.if-not-named.true in
-    sym (ap (map_answer stored) (answer-told t ∙ judged-off-sheet (sheet_in t) c.args.terms (division t) out))
+    sym (ap (map_answer stored) (answer-read t ∙ judged-off-sheet (sheet_in t) c.args.terms (division t) out))
 
 pub returns-then-not-once : goal.returns-then-not-once
 returns-then-not-once c =
     let t = (goal.at.returns-then-not-once c).After-figures_true-correct in
     let named : c.all_of_sheet-named.result ≡ true = cc in
     let out = in-one-told t ∙ c.if-not-once.true in
-    sym (ap (map_answer stored) (answer-told t ∙ judged-not-once (sheet_in t) c.args.terms (division t) (of-sheet-told t ∙ named) out))
+    sym (ap (map_answer stored) (answer-read t ∙ judged-not-once (sheet_in t) c.args.terms (division t) (of-sheet-told t ∙ named) out))
 
 pub returns-then-not-correct : goal.returns-then-not-correct
 returns-then-not-correct c =
     let t = (goal.at.returns-then-not-correct c).After-figures_true-correct in
     let named : c.all_of_sheet-named.result ≡ true = cc in
-    let once : c.all_in_one-once.result ≡ true = cc in
+    let one : c.all_in_one-once.result ≡ true = cc in
     let out = figures-told t ∙ c.if-not-correct.true in
-    sym (ap (map_answer stored) (answer-told t ∙ judged-false (sheet_in t) c.args.terms (division t) (of-sheet-told t ∙ named) (in-one-told t ∙ once) out))
+    sym (ap (map_answer stored) (answer-read t ∙ judged-false (sheet_in t) c.args.terms (division t) (of-sheet-told t ∙ named) (once t one) out))
 
 pub returns : goal.returns
 returns c =
     let t = (goal.at.returns c).After-figures_true-correct in
     let named : c.all_of_sheet-named.result ≡ true = cc in
-    let once : c.all_in_one-once.result ≡ true = cc in
+    let one : c.all_in_one-once.result ≡ true = cc in
     let correct = figures-told t ∙ c.if-not-correct.false in
     ap accepted (margins-told t)
-    ∙ sym (ap (map_answer stored) (answer-told t ∙ judged-true (sheet_in t) c.args.terms (division t) (of-sheet-told t ∙ named) (in-one-told t ∙ once) correct))
+    ∙ sym (ap (map_answer stored) (answer-read t ∙ judged-true (sheet_in t) c.args.terms (division t) (of-sheet-told t ∙ named) (once t one) correct))

@@ -6,5 +6,5 @@ use Rattle.printed_division.proofs.put_division.Goals as goal
 pub returns : goal.returns
 unfolding outcome_text all_lines
 returns c =
-    rw (← c.lesser-yards.ensures, ← c.lesser-pieces.ensures)
-    (c.put_head-headed.ensures then c.put_yards-lined.ensures then c.put_cutters-named.ensures then c.put_bytes.ensures)
+    rw (← c.min-yards.ensures, ← c.min-pieces.ensures)
+    (c.put_head.ensures then c.put_yards.ensures then c.put_cutters.ensures then c.bytes.ensures)

@@ -5,4 +5,4 @@ use Rattle.printed_lines.proofs.put_head.Goals as goal
 pub returns : goal.returns
 unfolding head_line
 returns c =
-    c.put_field-counted.ensures then c.put_field-listed.ensures then c.put_field-graded.ensures then c.put_bytes.ensures
+    c.field.ensures then c.field-2.ensures then rw c.from.ensures at c.field-3.ensures then c.bytes.ensures

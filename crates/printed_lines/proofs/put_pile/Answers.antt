@@ -1,6 +1,6 @@
-use Rattle.writing.proofs.Written.{◌then◌}
 use Rattle.sheet.specs.Sets.{items_of}
 use Rattle.sheet.proofs.listing.Listed.{listed-is}
+use Rattle.writing.proofs.Written.{◌then◌}
 use Rattle.printed_lines.specs.PrintedLines.{pile_group}
 use Rattle.printed_lines.proofs.put_pile.Goals as goal
 
@@ -8,5 +8,4 @@ pub returns : goal.returns
 unfolding pile_group
 returns c =
     let listed = listed-is (items_of c.args.pile) c.items_of-bundle.ensures in
-    let numbers-put = rw listed at c.put_spaced-listed.ensures in
-    c.put_bytes-opened.ensures then numbers-put then c.put.ensures
+    c.bytes.ensures then rw listed at c.spaced.ensures then c.byte.ensures

@@ -1,5 +1,5 @@
--- The text of the outcome of a division is the division's printed text. Assumes nothing.
-use mathlib.Core.Path.{◌≡◌, ap, ◌∙◌}
+-- The text of a division as the code has it is the division's printed text. Assumes nothing.
+use mathlib.Core.Path.{◌≡◌, ◌∙◌}
 use mathlib.Core.List.{List, [], map, Memᴰ as Mem}
 use mathlib.Core.List.Sublistᴰ.{trans as sublist-trans}
 use Prim.Native.Nat.{ℕ, ◌-◌, ◌≤◌}
@@ -13,18 +13,17 @@ use Rattle.lists.proofs.members.FlatMap.{flat_map-cong}
 use Rattle.lists.proofs.places.Defaults.{get_d_default}
 use Rattle.lists.proofs.sums.Totals.{map-cong}
 use Rattle.sheet.specs.Limits.{most_agents, most_items, set_bits}
-use Rattle.sheet.specs.Answers.{accepted}
 use Rattle.sheet.specs.Contents.{Contents}
 use Rattle.sheet.specs.Sets.{items_of, set_of}
 use Rattle.sheet.proofs.sets.Bundles.{nth-set-items}
 use Rattle.cut.specs.Outcome.{placed}
 use Rattle.rounds.specs.Division.{Division}
-use Rattle.shares.specs.Outcome.{cut_of, blank_cut}
-use Rattle.division.specs.Outcome.{outcome}
+use Rattle.shares.specs.Stored.{blank_cut}
+use Rattle.division.specs.Stored.{stored}
 use Rattle.bundling.specs.Bundles.{bundle, all_bundles}
 use Rattle.bundling.proofs.Bundles.{items_in-append}
 use Rattle.printing.specs.Printed.{all_lines, agent_line, printed}
-use Rattle.printed_division.specs.OutcomeText.{no_cut, outcome_line, outcome_text}
+use Rattle.printed_division.specs.OutcomeText.{outcome_line, outcome_text}
 use Rattle.printing.proofs.printed.Printable.{Printable}
 use Rattle.printed_lines.proofs.BeforeZero.{before_zero-padded}
 
@@ -42,14 +41,13 @@ module _ (sheet : Contents) (d : Division) (few : sheet.items ≤ most_items) (p
   m = sheet.items
 
   -- agent i's cut in the array
-  nth_cut : (i : ℕ) → Mem i (range 1 n) → (nth no_cut (padded most_agents blank_cut (map cut_of d.cuts)) i).partition ≡ placed (nth [] d.cuts i)
+  nth_cut : (i : ℕ) → Mem i (range 1 n) → nth [] (padded most_agents blank_cut (map placed d.cuts)) i ≡ placed (nth [] d.cuts i)
   nth_cut i in_use =
       let b = range-bounds 1 n in_use in
-      let each : length (map cut_of d.cuts) ≡ n = length-map d.cuts cut_of ∙ p.cut_each in
-      ap (λ c. c.partition)
-      (nth-padded most_agents blank_cut no_cut (map cut_of d.cuts) (rw each in_use)
-      ∙ get_d_default no_cut blank_cut (map cut_of d.cuts) (i - 1) (omega arith)
-      ∙ get_or-map cut_of d.cuts (i - 1) [])
+      let each : length (map placed d.cuts) ≡ n = length-map d.cuts placed ∙ p.cut_each in
+      nth-padded most_agents blank_cut [] (map placed d.cuts) (rw each in_use)
+      ∙ get_d_default [] blank_cut (map placed d.cuts) (i - 1) (omega arith)
+      ∙ get_or-map placed d.cuts (i - 1) []
 
   -- its bundle
   nth-bundle : (i : ℕ) → Mem i (range 1 n) → items_of (nth 0 (padded most_agents 0 (map set_of d.bundles)) i) ≡ nth [] d.bundles i
@@ -62,13 +60,13 @@ module _ (sheet : Contents) (d : Division) (few : sheet.items ≤ most_items) (p
   nth-share i in_use = nth-padded most_agents 0 0 d.shares (rw p.share_each in_use)
 
   outcome_line-divided : (i : ℕ) → Mem i (range 1 n)
-      → let o = outcome (accepted d) in outcome_line n m o.bundles o.worths o.shares o.cuts i ≡ agent_line sheet d i
+      → let o = stored d in outcome_line n m o.bundles o.worths o.shares o.cuts i ≡ agent_line sheet d i
   outcome_line-divided i in_use =
       rw (nth-bundle i in_use, nth-worth i in_use, nth-share i in_use, nth_cut i in_use, all_bundles-padded n m (nth [] d.cuts i) (p.entry_each i in_use))
 
-  -- the text of the outcome of a division
-  pub outcome_text-divided : outcome_text n m (outcome (accepted d)) ≡ printed sheet d
+  -- the text of a division as the code has it
+  pub outcome_text-divided : outcome_text n m (stored d) ≡ printed sheet d
   unfolding outcome_text printed all_lines
   outcome_text-divided =
-      let o = outcome (accepted d) in
+      let o = stored d in
       rw (flat_map-cong (outcome_line n m o.bundles o.worths o.shares o.cuts) (agent_line sheet d) (range 1 n) outcome_line-divided, before_zero-padded n (most_agents - length d.cutters) d.cutters p.cutters_within)

@@ -1,51 +1,40 @@
-use mathlib.Core.Path.{◌≡◌, sym, ap, ◌∙◌}
+use mathlib.Core.Path.{sym, ap, ◌∙◌}
 use lib.ListN.{length}
+use Rattle.std.proofs.lemmas.Result.{err_from_is_err_and}
 use Rattle.sheet.specs.Limits.{most_agents, most_items}
-use Rattle.sheet.specs.Answers.{refused}
+use Rattle.sheet.specs.Answers.{map_answer, after}
 use Rattle.sheet.proofs.Limits.{counts-in-use}
-use Rattle.sheet.specs.Contents.{Contents, contents}
-use Rattle.printing.specs.Printing.{printing}
+use Rattle.sheet.specs.Contents.{contents}
+use Rattle.writing.specs.Filled.{filled}
 use Rattle.printing.proofs.outcomes.Marks.{table-small}
-use Rattle.printing.proofs.outcomes.Answers.{refusal-printed, IsDivided, answered-divided, division-printed, text-short}
+use Rattle.printing.proofs.outcomes.Answers.{refusal-printed, is-divided, division-printed, text-short}
 use Rattle.printing.proofs.print_division.Goals as goal
-use Rattle.printing.proofs.print_division.Goals.{In-Divided, In-Refused}
-
-module _ (c : In-Divided) where
-  -- the sheet that is handed in
-  abbrev sheet_in : Contents
-  sheet_in = contents c.args.sheet c.args.table
-
-  -- where the answer is a division, the sheet is divided
-  is-divided : IsDivided sheet_in c.args.allowance
-  is-divided = answered-divided sheet_in c.args.allowance (sym (ap (λ o. o.answer) c.divide-outcome.ensures.answered) ∙ c.in-Divided.is)
-
--- a refusal of the division is what is printed
-is-refused : (c : In-Refused)
-    → printing (contents c.args.sheet c.args.table) c.args.allowance (length c.args.buffer.now) ≡ refused c.in-Refused.number
-is-refused c =
-    refusal-printed (contents c.args.sheet c.args.table) c.args.allowance (length c.args.buffer.now) c.in-Refused.number
-    (sym (ap (λ o. o.answer) c.divide-outcome.ensures.answered) ∙ c.in-Refused.is)
 
 pub print_outcome-requires : goal.print_outcome-requires
 print_outcome-requires c =
-    let s = contents c.args.sheet c.args.table in
-    let is = is-divided (goal.at.print_outcome-requires c).In-Divided in (
-      counts-in-use is.limits,
-      rw c.divide-outcome.ensures.answered (text-short s c.args.allowance is (table-small most_agents most_items c.args.table _ c.well_formed.0)),
-    )
+    let a = c.args in
+    let is = is-divided (contents a.sheet a.table) a.allowance _ c.in_ok-division.ensures.answered in
+    (counts-in-use is.limits, text-short is (table-small most_agents most_items a.table _ c.well_formed.0))
 
-pub returns-in-Refused-clause-answer : goal.returns-in-Refused-clause-answer
-returns-in-Refused-clause-answer c = rw (is-refused c)
+pub returns-in_err-division-clause-answer : goal.returns-in_err-division-clause-answer
+returns-in_err-division-clause-answer c =
+    let a = c.args in
+    let p = err_from_is_err_and c.from_residual.result c.from_residual.ensures.1 in
+    rw (p.1, p.2) (sym (ap (map_answer length) (refusal-printed (contents a.sheet a.table) a.allowance (length a.buffer.now) _ c.in_err-division.ensures.answered)))
 
-pub returns-in-Refused-clause-buffer : goal.returns-in-Refused-clause-buffer
-returns-in-Refused-clause-buffer c = rw (is-refused c)
+pub returns-in_err-division-clause-buffer : goal.returns-in_err-division-clause-buffer
+returns-in_err-division-clause-buffer c =
+    let a = c.args in
+    sym (ap (λ p. after filled p a.buffer.now) (refusal-printed (contents a.sheet a.table) a.allowance (length a.buffer.now) _ c.in_err-division.ensures.answered))
 
-pub returns-in-Divided-clause-answer : goal.returns-in-Divided-clause-answer
-returns-in-Divided-clause-answer c =
-    let at-divided = (goal.at.returns-in-Divided-clause-answer c).In-Divided in
-    rw (← division-printed (contents c.args.sheet c.args.table) c.args.allowance (is-divided at-divided) (length c.args.buffer.now), ← c.divide-outcome.ensures.answered) c.print_outcome.ensures.answer
+pub returns-clause-answer : goal.returns-clause-answer
+returns-clause-answer c =
+    let a = c.args in
+    let is = is-divided (contents a.sheet a.table) a.allowance _ c.in_ok-division.ensures.answered in
+    c.print_outcome.ensures.answer ∙ ap (map_answer length) (division-printed is (length a.buffer.now))
 
-pub returns-in-Divided-clause-buffer : goal.returns-in-Divided-clause-buffer
-returns-in-Divided-clause-buffer c =
-    let at-divided = (goal.at.returns-in-Divided-clause-buffer c).In-Divided in
-    rw (← division-printed (contents c.args.sheet c.args.table) c.args.allowance (is-divided at-divided) (length c.args.buffer.now), ← c.divide-outcome.ensures.answered) c.print_outcome.ensures.buffer
+pub returns-clause-buffer : goal.returns-clause-buffer
+returns-clause-buffer c =
+    let a = c.args in
+    let is = is-divided (contents a.sheet a.table) a.allowance _ c.in_ok-division.ensures.answered in
+    c.print_outcome.ensures.buffer ∙ ap (λ p. after filled p a.buffer.now) (division-printed is (length a.buffer.now))

@@ -1,48 +1,47 @@
-use mathlib.Core.Path.{◌≡◌, sym, ap, ◌∙◌}
+use mathlib.Core.Path.{sym, ap, ◌∙◌}
 use mathlib.Core.List.{List}
 use Prim.Native.Nat.{ℕ}
 use lib.ListN.{length}
-use Rattle.sheet.specs.Answers.{Answer, refused, after}
-use Rattle.sheet.specs.Contents.{Contents, contents}
+use Rattle.std.proofs.lemmas.Result.{err_from_is_err_and}
+use Rattle.sheet.specs.Answers.{Answer, map_answer, after}
+use Rattle.sheet.specs.Contents.{Contents}
 use Rattle.writing.specs.Filled.{filled}
-use Rattle.reading.proofs.Composed.{refused-read, accepted-read}
-use Rattle.writing.specs.Answered.{answered}
+use Rattle.writing.proofs.Following.{refusal-follows, result-follows}
+use Rattle.reading.specs.Reading.{reading}
+use Rattle.reading.specs.Stored.{stored}
 use Rattle.printing.specs.Printing.{printing}
-use Rattle.sheet_to_division.specs.ShareOut.{share_out}
 use Rattle.sheet_to_division.proofs.ByPrinting.{share_out-by-printing}
 use Rattle.sheet_to_division.proofs.share_out.Goals as goal
-use Rattle.sheet_to_division.proofs.share_out.Goals.{In-Refused, After-table-table}
 
 -- what follows reading
 abbrev printing_of : ℕ → ℕ → Contents → Answer (List ℕ)
 printing_of allowance room sheet = printing sheet allowance room
 
--- a refusal of reading is the answer
-told : (c : In-Refused) → share_out c.args.text.now c.args.allowance (length c.args.buffer.now) ≡ refused c.in-Refused.number
-told c =
+pub returns-in_err-read-clause-answer : goal.returns-in_err-read-clause-answer
+returns-in_err-read-clause-answer c =
     let a = c.args in
     let room = length a.buffer.now in
-    share_out-by-printing a.allowance room a.text.now
-    ∙ refused-read (printing_of a.allowance room) a.text.now c.read-found.ensures c.in-Refused.is
+    let p = err_from_is_err_and c.from_residual.result c.from_residual.ensures.1 in
+    let told = refusal-follows stored (reading a.text.now) (printing_of a.allowance room) _ c.in_err-read.ensures in
+    rw (p.1, p.2) (sym (ap (map_answer length) (share_out-by-printing a.allowance room a.text.now ∙ told)))
 
--- what is printed is the division of what was read
-same : (c : After-table-table)
-    → let a = c.args in printing (contents c.in-Accepted.sheet c.table-table.result) a.allowance (length a.buffer.now) ≡ share_out a.text.now a.allowance (length a.buffer.now)
-same c =
+pub returns-in_err-read-clause-buffer : goal.returns-in_err-read-clause-buffer
+returns-in_err-read-clause-buffer c =
     let a = c.args in
     let room = length a.buffer.now in
-    accepted-read a.text.now c.read-found.ensures (printing_of a.allowance room) c.in-Accepted.is c.table-table.ensures
-    ∙ sym (share_out-by-printing a.allowance room a.text.now)
+    let told = refusal-follows stored (reading a.text.now) (printing_of a.allowance room) _ c.in_err-read.ensures in
+    sym (ap (λ p. after filled p a.buffer.now) (share_out-by-printing a.allowance room a.text.now ∙ told))
 
-pub returns-in-Refused-clause-answer : goal.returns-in-Refused-clause-answer
-returns-in-Refused-clause-answer c = sym (ap answered (told c))
+pub returns-clause-answer : goal.returns-clause-answer
+returns-clause-answer c =
+    let a = c.args in
+    let room = length a.buffer.now in
+    let got = result-follows stored (reading a.text.now) (printing_of a.allowance room) _ c.in_ok-read.ensures in
+    rw got.2 at c.print_division.ensures.answer ∙ sym (ap (map_answer length) (share_out-by-printing a.allowance room a.text.now ∙ got.1))
 
-pub returns-in-Refused-clause-buffer : goal.returns-in-Refused-clause-buffer
-returns-in-Refused-clause-buffer c = sym (ap (λ p. after filled p c.args.buffer.now) (told c))
-
-pub returns-in-Accepted-clause-answer : goal.returns-in-Accepted-clause-answer
-returns-in-Accepted-clause-answer c = c.print_division.ensures.answer ∙ ap answered (same (goal.at.returns-in-Accepted-clause-answer c).After-table-table)
-
-pub returns-in-Accepted-clause-buffer : goal.returns-in-Accepted-clause-buffer
-returns-in-Accepted-clause-buffer c =
-    c.print_division.ensures.buffer ∙ ap (λ p. after filled p c.args.buffer.now) (same (goal.at.returns-in-Accepted-clause-buffer c).After-table-table)
+pub returns-clause-buffer : goal.returns-clause-buffer
+returns-clause-buffer c =
+    let a = c.args in
+    let room = length a.buffer.now in
+    let got = result-follows stored (reading a.text.now) (printing_of a.allowance room) _ c.in_ok-read.ensures in
+    rw got.2 at c.print_division.ensures.buffer ∙ sym (ap (λ p. after filled p a.buffer.now) (share_out-by-printing a.allowance room a.text.now ∙ got.1))

@@ -2,19 +2,22 @@ use mathlib.Core.Path.{◌≡◌, sym, ap, ◌∙◌}
 use mathlib.Core.List.{List}
 use Prim.Native.Nat.{ℕ}
 use lib.ListN.{length}
-use Rattle.sheet.specs.Answers.{refused, accepted, after}
+use Rattle.std.proofs.lemmas.Result.{err_from_is_err_and}
+use Rattle.sheet.specs.Answers.{refused, accepted, map_answer, after}
 use Rattle.sheet.specs.Contents.{Contents, contents}
+use Rattle.sheet.proofs.Answering.{refused-of_err}
 use Rattle.tokens.specs.Tokens.{Token}
 use Rattle.tokeniser.specs.Places.{tokens_at}
 use Rattle.reading.specs.Reading.{reading_front}
+use Rattle.reading.specs.Stored.{stored_front}
+use Rattle.reading.proofs.FrontPlace.{front-read}
 use Rattle.writing.specs.Filled.{filled}
-use Rattle.writing.specs.Answered.{answered}
 use Rattle.division_reading.specs.Grammar.{division_text}
 use Rattle.stated_truth.specs.Lines.{stated_in}
 use Rattle.sheet_to_judgement.specs.TextJudged.{text_judged, judgement_from}
 use Rattle.sheet_to_judgement.specs.internal.Printing.{printing_judgement}
 use Rattle.sheet_to_judgement.proofs.StatedBack.{stated-kept}
-use Rattle.sheet_to_judgement.proofs.Front.{refused-front, accepted-front, front-counts}
+use Rattle.sheet_to_judgement.proofs.Front.{reading_front-counts}
 use Rattle.sheet_to_judgement.proofs.judge_division.Goals as goal
 use Rattle.sheet_to_judgement.proofs.judge_division.Goals.{After-print_judged}
 
@@ -28,37 +31,39 @@ accepted-judged : (text : List ℕ) (room : ℕ) (sheet : Contents) (behind : Li
 unfolding judgement_from text_judged printing_judgement
 accepted-judged text room sheet behind read = rw read
 
-pub returns-in-Refused-clause-answer : goal.returns-in-Refused-clause-answer
-returns-in-Refused-clause-answer c =
+pub returns-in_err-front-clause-answer : goal.returns-in_err-front-clause-answer
+returns-in_err-front-clause-answer c =
     let a = c.args in
-    let told = refused-judged a.text.now (length a.buffer.now) _ (refused-front a.text.now c.read_front-front.ensures c.in-Refused.is) in
-    sym (ap answered told)
+    let p = err_from_is_err_and c.from_residual.result c.from_residual.ensures.1 in
+    let told = refused-judged a.text.now (length a.buffer.now) _ (refused-of_err (stored_front a.text.now) _ _ c.in_err-front.ensures) in
+    rw (p.1, p.2) (sym (ap (map_answer length) told))
 
-pub returns-in-Refused-clause-buffer : goal.returns-in-Refused-clause-buffer
-returns-in-Refused-clause-buffer c =
+pub returns-in_err-front-clause-buffer : goal.returns-in_err-front-clause-buffer
+returns-in_err-front-clause-buffer c =
     let a = c.args in
-    let told = refused-judged a.text.now (length a.buffer.now) _ (refused-front a.text.now c.read_front-front.ensures c.in-Refused.is) in
+    let told = refused-judged a.text.now (length a.buffer.now) _ (refused-of_err (stored_front a.text.now) _ _ c.in_err-front.ensures) in
     sym (ap (λ p. after filled p a.buffer.now) told)
 
 -- what is printed is the judgement from the text
-same : (c : After-print_judged) → let counts = c.in-Accepted.sheet in
+same : (c : After-print_judged) → let front = c.in_ok-front.front in
     let room = length c.args.buffer.now in
-    printing_judgement (contents counts c.table-table.result) (stated_in counts.agents c.read_division-stated.result) room ≡ judgement_from c.args.text.now room
+    printing_judgement (contents front.sheet front.table) (stated_in front.sheet.agents c.read_division-stated.result) room ≡ judgement_from c.args.text.now room
 same c =
-    let a = c.args in
-    let counts = c.in-Accepted.sheet in
-    let table = c.table-table.result in
-    let room = length a.buffer.now in
-    let behind = tokens_at a.text.now c.read_front-front.result.next in
-    let few = front-counts a.text.now c.read_front-front.ensures c.in-Accepted.is c.table-table.ensures in
-    let front = accepted-front a.text.now c.read_front-front.ensures c.in-Accepted.is c.table-table.ensures in
+    let text = c.args.text.now in
+    let room = length c.args.buffer.now in
+    let front = c.in_ok-front.front in
+    let counts = front.sheet in
+    let sheet = contents counts front.table in
+    let behind = tokens_at text c.in_ok-front.behind in
+    let read = front-read text front c.in_ok-front.behind c.in_ok-front.ensures in
+    let few = reading_front-counts text sheet behind read in
     let stated : stated_in counts.agents c.read_division-stated.result ≡ division_text counts.agents counts.items behind =
     ap (stated_in counts.agents) c.read_division-stated.ensures ∙ stated-kept counts.agents counts.items few.few_items few.few behind in
-    ap (λ d. printing_judgement (contents counts table) d room) stated ∙ sym (accepted-judged a.text.now room (contents counts table) behind front)
+    ap (λ d. printing_judgement sheet d room) stated ∙ sym (accepted-judged text room sheet behind read)
 
-pub returns-in-Accepted-clause-answer : goal.returns-in-Accepted-clause-answer
-returns-in-Accepted-clause-answer c = c.print_judged.ensures.answer ∙ ap answered (same (goal.at.returns-in-Accepted-clause-answer c).After-print_judged)
+pub returns-clause-answer : goal.returns-clause-answer
+returns-clause-answer c = c.print_judged.ensures.answer ∙ ap (map_answer length) (same (goal.at.returns-clause-answer c).After-print_judged)
 
-pub returns-in-Accepted-clause-buffer : goal.returns-in-Accepted-clause-buffer
-returns-in-Accepted-clause-buffer c =
-    c.print_judged.ensures.buffer ∙ ap (λ p. after filled p c.args.buffer.now) (same (goal.at.returns-in-Accepted-clause-buffer c).After-print_judged)
+pub returns-clause-buffer : goal.returns-clause-buffer
+returns-clause-buffer c =
+    c.print_judged.ensures.buffer ∙ ap (λ p. after filled p c.args.buffer.now) (same (goal.at.returns-clause-buffer c).After-print_judged)

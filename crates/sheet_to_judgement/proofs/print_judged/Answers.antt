@@ -1,32 +1,39 @@
-use mathlib.Core.Path.{refl}
+use mathlib.Core.Path.{sym, ap, ◌∙◌}
+use lib.ListN.{length}
+use Rattle.std.proofs.lemmas.Result.{err_from_is_err_and}
+use Rattle.sheet.specs.Answers.{map_answer, after}
 use Rattle.sheet.specs.Contents.{contents}
 use Rattle.stated_truth.specs.Lines.{stated_in}
+use Rattle.writing.specs.Filled.{filled}
 use Rattle.sheet_to_judgement.proofs.Answers.{refusal-printed, accepted-few, margins-printed}
 use Rattle.sheet_to_judgement.proofs.print_judged.Goals as goal
 
 pub print_margins-requires : goal.print_margins-requires
 print_margins-requires c =
     let a = c.args in
-    accepted-few (contents a.sheet a.table) (stated_in a.sheet.agents a.stated) c.judge-judged.ensures c.in-Accepted.is
+    accepted-few (contents a.sheet a.table) (stated_in a.sheet.agents a.stated) _ c.in_ok-margins.ensures
 
-pub returns-in-Refused-clause-answer : goal.returns-in-Refused-clause-answer
-returns-in-Refused-clause-answer c =
+pub returns-in_err-margins-clause-answer : goal.returns-in_err-margins-clause-answer
+returns-in_err-margins-clause-answer c =
     let a = c.args in
-    (refusal-printed (contents a.sheet a.table) (stated_in a.sheet.agents a.stated) c.judge-judged.ensures c.in-Refused.is a.buffer.now (refl, refl)).0
+    let p = err_from_is_err_and c.from_residual.result c.from_residual.ensures.1 in
+    let told = refusal-printed (contents a.sheet a.table) (stated_in a.sheet.agents a.stated) _ c.in_err-margins.ensures (length a.buffer.now) in
+    rw (p.1, p.2) (sym (ap (map_answer length) told))
 
-pub returns-in-Refused-clause-buffer : goal.returns-in-Refused-clause-buffer
-returns-in-Refused-clause-buffer c =
+pub returns-in_err-margins-clause-buffer : goal.returns-in_err-margins-clause-buffer
+returns-in_err-margins-clause-buffer c =
     let a = c.args in
-    (refusal-printed (contents a.sheet a.table) (stated_in a.sheet.agents a.stated) c.judge-judged.ensures c.in-Refused.is a.buffer.now (refl, refl)).1
+    let told = refusal-printed (contents a.sheet a.table) (stated_in a.sheet.agents a.stated) _ c.in_err-margins.ensures (length a.buffer.now) in
+    sym (ap (λ p. after filled p a.buffer.now) told)
 
-pub returns-in-Accepted-clause-answer : goal.returns-in-Accepted-clause-answer
-returns-in-Accepted-clause-answer c =
+pub returns-clause-answer : goal.returns-clause-answer
+returns-clause-answer c =
     let a = c.args in
-    (margins-printed (contents a.sheet a.table) (stated_in a.sheet.agents a.stated) c.judge-judged.ensures c.in-Accepted.is a.buffer.now
-    (c.print_margins.ensures.answer, c.print_margins.ensures.buffer)).0
+    let told = margins-printed (contents a.sheet a.table) (stated_in a.sheet.agents a.stated) _ c.in_ok-margins.ensures (length a.buffer.now) in
+    c.print_margins.ensures.answer ∙ sym (ap (map_answer length) told)
 
-pub returns-in-Accepted-clause-buffer : goal.returns-in-Accepted-clause-buffer
-returns-in-Accepted-clause-buffer c =
+pub returns-clause-buffer : goal.returns-clause-buffer
+returns-clause-buffer c =
     let a = c.args in
-    (margins-printed (contents a.sheet a.table) (stated_in a.sheet.agents a.stated) c.judge-judged.ensures c.in-Accepted.is a.buffer.now
-    (c.print_margins.ensures.answer, c.print_margins.ensures.buffer)).1
+    let told = margins-printed (contents a.sheet a.table) (stated_in a.sheet.agents a.stated) _ c.in_ok-margins.ensures (length a.buffer.now) in
+    c.print_margins.ensures.buffer ∙ sym (ap (λ p. after filled p a.buffer.now) told)

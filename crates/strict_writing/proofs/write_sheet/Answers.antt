@@ -1,3 +1,5 @@
+use Rattle.std.proofs.Common.{rules}
+use mathlib.Core.Path.{ap}
 use Prim.Native.Nat.{◌≤◌}
 use native.Mathlib.Omega.{arith}
 use mathlib.Core.List.{List}
@@ -12,5 +14,7 @@ use Rattle.strict_writing.proofs.write_sheet.Goals as goal
 pub returns-clause-buffer : goal.returns-clause-buffer
 returns-clause-buffer c =
     let text : List ℕ = strict_text (contents c.args.sheet c.args.table) in
+    let lent = ap (λ b. b.now) c.new-writer.ensures.buffer in
     let room : length text ≤ length c.args.buffer.now = omega (arith, c.sheet_length-length.ensures) in
-    rw (le-leb (length text) (length c.args.buffer.now) room) (written-whole c.put_sheet.ensures room).bytes_of
+    let whole = rw lent at (written-whole c.put_sheet.ensures c.new-writer.ensures.place (rw lent room)).bytes_of in
+    rw (le-leb (length text) (length c.args.buffer.now) room) (search (rules, whole))

@@ -1,4 +1,4 @@
-use mathlib.Core.Path.{◌≡◌, refl, ap, ◌∙◌}
+use mathlib.Core.Path.{◌≡◌, ap, ◌∙◌}
 use mathlib.Core.List.{List, flat_map}
 use Rattle.lists.specs.Lists.{range}
 use Prim.Native.Nat.{ℕ, ◌+◌}
@@ -27,22 +27,19 @@ module _ (c : After-bundle_of-bundle) where
 
 pub loop-i-init : goal.loop-i-init
 unfolding flat_map
-loop-i-init c = (omega arith, refl, nothing)
+loop-i-init c = nothing
 
 pub loop-i-preserved : goal.loop-i-preserved
 loop-i-preserved c =
     let l = c.loop-i in
     let a = c.args in
-    let at-bundle = (goal.at.loop-i-preserved c).After-bundle_of-bundle in (
-      omega arith,
-      c.put_group-next.auto.buffer ∙ c.put-next.auto.buffer ∙ l.invariant.1,
-      rw (flat_map-next (bundle_text a.items a.partition) l.i)
-          (l.invariant.2 then (c.put-next.ensures then rw (listed-is (next-bundle at-bundle) (bundle-is at-bundle)) at c.put_group-next.ensures)),
-    )
+    let at-bundle = (goal.at.loop-i-preserved c).After-bundle_of-bundle in
+    rw (flat_map-next (bundle_text a.items a.partition) l.i)
+    (l.invariant then (c.byte.ensures then rw (listed-is (next-bundle at-bundle) (bundle-is at-bundle)) at c.group.ensures))
 
 pub returns : goal.returns
 returns c =
     let l = c.loop-i in
     let a = c.args in
     let all : l.i ≡ a.agents = omega arith in
-    rw (flat_map-map cut_pile (bundle (range 1 a.items) a.partition) (range 1 a.agents)) (rw all at l.invariant.2)
+    rw (flat_map-map cut_pile (bundle (range 1 a.items) a.partition) (range 1 a.agents)) (rw all at l.invariant)

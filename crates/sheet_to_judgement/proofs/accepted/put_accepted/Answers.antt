@@ -5,4 +5,4 @@ use Rattle.sheet_to_judgement.proofs.accepted.put_accepted.Goals as goal
 pub returns : goal.returns
 unfolding margins_text
 returns c =
-    c.put_bytes-opened.ensures then c.put_margins-listed.ensures then c.put_bytes.ensures
+    c.bytes.ensures then c.put_margins.ensures then c.bytes-2.ensures

@@ -1,8 +1,8 @@
-use mathlib.Core.Path.{refl, ◌∙◌}
 use mathlib.Core.List.{flat_map}
 use native.Mathlib.Omega.{arith}
 use lib.IntN.{pos}
-use lib.ListN.{get_or}
+use lib.ListN.{get_or, length-take}
+use lib.Seq.{get_or-take}
 use mir.Syntax.{w64}
 use mir.ValLaws.{to_z-of_z}
 use Rattle.lists.proofs.places.Places.{nth-next}
@@ -13,18 +13,16 @@ use Rattle.sheet.specs.Limits.{most_agents}
 use Rattle.sheet_to_judgement.proofs.Fit.{margins-fit}
 use Rattle.sheet_to_judgement.proofs.accepted.put_margins.Goals as goal
 
-pub loop-i-init : goal.loop-i-init
+pub loop-margin-init : goal.loop-margin-init
 unfolding flat_map
-loop-i-init c = (omega arith, refl, nothing)
+loop-margin-init c = nothing
 
-pub loop-i-preserved : goal.loop-i-preserved
-loop-i-preserved c =
-    let l = c.loop-i in
+pub loop-margin-preserved : goal.loop-margin-preserved
+loop-margin-preserved c =
+    let l = c.loop-margin in
     let margins = c.args.margins in
-    let fits = margins-fit most_agents margins _ c.well_formed.1.1.1.0 l.i in
-    let stands = to_z-of_z w64 (get_or margins l.i (pos 0)) (record { sfits = fits }) in (
-      omega arith,
-      c.put_signed-next.auto.buffer ∙ c.put-next.auto.buffer ∙ l.invariant.1,
-      rw (flat_map-next (spaced_margin margins) l.i, nth-next (pos 0) margins l.i)
-          (l.invariant.2 then (c.put-next.ensures then rw stands at c.put_signed-next.ensures)),
-    )
+    let own = get_or-take c.args.agents margins l.margin-index (pos 0) (omega (arith, length-take c.args.agents margins)) in
+    let fits = margins-fit most_agents margins _ c.well_formed.1.1.0 l.margin-index in
+    let stands = to_z-of_z w64 (get_or margins l.margin-index (pos 0)) (record { sfits = fits }) in
+    rw (flat_map-next (spaced_margin margins) l.margin-index, nth-next (pos 0) margins l.margin-index)
+    (l.invariant then (c.byte.ensures then rw (own, stands) at c.signed.ensures))

@@ -5,8 +5,4 @@ use Rattle.strict_writing.proofs.lines.put_head.Goals as goal
 pub returns : goal.returns
 unfolding head_text
 returns c =
-    c.write_word-opened.ensures
-    then c.write_number-counted.ensures
-    then c.write_word-parted.ensures
-    then c.write_number-listed.ensures
-    then c.write_word.ensures
+    c.bytes.ensures then c.spaced_number.ensures then c.bytes-2.ensures then c.spaced_number-2.ensures then c.bytes-3.ensures

@@ -1,18 +1,14 @@
-use mathlib.Core.Path.{refl, ◌∙◌}
 use native.Mathlib.Omega.{arith}
 use Rattle.text.specs.Decimal.{spaced_numbers}
 use Rattle.text.proofs.Spaced.{spaced_numbers-next}
 use Rattle.writing.proofs.Written.{nothing, ◌then◌}
 use Rattle.strict_writing.proofs.lines.put_marks.Goals as goal
 
-pub loop-i-init : goal.loop-i-init
+pub loop-mark-init : goal.loop-mark-init
 unfolding spaced_numbers
-loop-i-init c = (omega arith, refl, nothing)
+loop-mark-init c = nothing
 
-pub loop-i-preserved : goal.loop-i-preserved
-loop-i-preserved c =
-    let l = c.loop-i in (
-      omega arith,
-      c.put_mark-next.auto.buffer ∙ l.invariant.1,
-      rw (spaced_numbers-next c.args.marks l.i (omega arith)) (l.invariant.2 then c.put_mark-next.ensures),
-    )
+pub loop-mark-preserved : goal.loop-mark-preserved
+loop-mark-preserved c =
+    let l = c.loop-mark in
+    rw (spaced_numbers-next c.args.marks.now l.mark-index (omega arith)) (l.invariant then rw c.from.ensures at c.spaced_number.ensures)

@@ -5,4 +5,4 @@ use Rattle.strict_writing.proofs.lines.put_sheet.Goals as goal
 pub returns : goal.returns
 unfolding body_text sheet_text strict_text
 returns c =
-    c.put_head-headed.ensures then c.put_yards-lined.ensures then c.write_word.ensures
+    c.put_head.ensures then c.put_yards.ensures then c.bytes.ensures

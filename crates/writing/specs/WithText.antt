@@ -1,9 +1,9 @@
--- What a writer is once a text is written. Assumes nothing: these are definitions.
+-- What a writer is once a text is written: what the functions that write say of it. Assumes nothing: these are definitions.
 use mathlib.Core.List.{List, foldl}
-use Rattle.std.specs.Prelude.{ℕ}
+use Rattle.std.specs.Prelude.{◌≡◌, ℕ}
 use denote.Ref.{at_last}
 use Rattle.writing.specs.Output.{Output, output, with_byte}
-use Rattle.writer.specs.declared.Writer.{Writer}
+use Rattle.writing.specs.declared.Writer.{Writer}
 
 -- a writer as a buffer and a place
 abbrev pub output_of : Writer → Output
@@ -16,3 +16,7 @@ with_output w o = record { buffer = at_last w.buffer o.bytes; at = o.next }
 -- the writer once the text is written, as far as there is room
 abbrev pub with_text : Writer → List ℕ → Writer
 with_text w text = with_output w (foldl with_byte (output_of w) text)
+
+-- the one writer becomes the other by the text
+pub record Writes (from : Writer) (text : List ℕ) (to : Writer) : Type 0 where
+  pub bytewise : to ≡ with_text from text

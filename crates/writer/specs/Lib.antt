@@ -1,2 +1,0 @@
--- What a writer is once a text is written.
-pub mod WithText
