@@ -40,6 +40,6 @@ pub fn judge_division(text: &[u8], buffer: &mut [u8]) -> Result<usize, Refusal>
 {
     let (front, behind) = reading::read_front(text)?;
     let sheet = front.sheet;
-    let stated = read_division(text, behind, sheet.agents, sheet.items);
+    let stated = read_division(text, behind, sheet);
     print_judged(front.table, sheet, stated, buffer)
 }
