@@ -43,8 +43,7 @@ fn rising_items(s: &[u8], c: Cursor, items: usize) -> Option<(u16, Cursor)>
     Some((set, here))
 }
 
-// A form's text, and then the items of a bundle (pile) to its end, for so many items, of no more than a sheet may have: the bundle as a
-// set, and the place after it.
+// The set of a bundle (pile) behind a form's text, for so many items, of no more than a sheet may have, and the place after it.
 pub fn bundle_after(s: &[u8], c: Cursor, form: &[u8], items: usize) -> Option<(u16, Cursor)>
     ensures { result ≡ bundle_from s.now c (bundle_after (tokens form.now) (min items most_items) (tokens_at s.now c)) }
 {
