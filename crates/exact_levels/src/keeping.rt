@@ -12,7 +12,7 @@ pub(crate) const SERVED: u64 = 1 << 40;
 // For each set of items, the most that is kept of it, with `SERVED` more where those before can be served.
 pub(crate) type Kept = [u64; SETS];
 
-// A sum with one mark more.
+// A sum with one mark more, for which the bound leaves room: std's checked_add would add a branch that is never taken.
 fn with_mark(sum: u64, mark: Mark) -> u64
     requires { sum ≤ greatest_kept }
     ensures { result ≡ sum + mark }

@@ -15,6 +15,7 @@ pub fn read_full<R: Read>(reader: &mut R, buffer: &mut [u8]) -> io::Result<usize
     ensures whole { IfOk result (λ n. n < length buffer.old → IsAtEnd (R.remaining reader.new)) }
 {
     let mut done: usize = 0;
+    // No range: each read moves it by as many bytes as come.
     while done < buffer.len() {
         let got = reader.read(&mut buffer[done..])?;
         if got == 0 {

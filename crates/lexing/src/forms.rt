@@ -26,6 +26,7 @@ pub fn follow(s: &[u8], c: Cursor, form: &[u8]) -> Option<Cursor>
 {
     let mut here = c;
     let mut there = Cursor::start();
+    // No range: each turn moves two cursors by a token.
     while !ended(form, there) {
         let f = next_token(form, there);
         let t = next_token(s, here);

@@ -12,7 +12,8 @@ use crate::scan::{token_end, token_start};
 mod bytes;
 mod scan;
 
-// A place in a text: the next byte to read, and whether its line has begun with a token.
+// A place in a text: the next byte to read, and whether its line has begun with a token. A text goes beside its cursor: only the cursor
+// moves, and an answer that held the text as well would have to say that it is the same text.
 #[derive(Clone, Copy)]
 pub struct Cursor {
     pub at: usize,
