@@ -114,7 +114,8 @@ fn is_searchable(values: &[u64], bundles: usize) -> bool
         && supplied(values, Sheet::GREATEST_SUM + 1) <= Sheet::GREATEST_SUM
 }
 
-// The search of the values from empty bundles, by a table of counts for at least as many items.
+// The search of the values from empty bundles, by a table of counts for at least as many items. Its numbers stay numbers: a second search
+// takes another ceiling and goal, so that a struct of them would be made anew for each.
 fn find_by(
     values: &[u64],
     counts: &Counts,
