@@ -6,7 +6,6 @@ use lib.ListN.{set as store}
 use Rattle.lists.proofs.places.Padding.{padded-range}
 use Rattle.lists.proofs.places.Places.{nth-next, store-small}
 use Rattle.sheet.specs.Limits.{most_agents, greatest_sum}
-use Rattle.sheet.specs.Contents.{contents}
 use Rattle.sheet.specs.Tables.{valuation_of, all_values}
 use Rattle.shares.specs.Shares.{share_of}
 use Rattle.shares.specs.Stored.{blank_cut}
@@ -19,11 +18,11 @@ use Rattle.shares.proofs.own_cuts.Goals.{After-own_cut-share}
 -- the share and the cut of agent i + 1
 own_read : (c : After-own_cut-share)
     → let a = c.args in
-    c.own_cut-share.result ≡ own_cut a.sheet.agents (all_values a.sheet.items (valuation_of a.table (c.loop-i.i + 1)))
+    c.own_cut-share.result ≡ own_cut a.contents.now.agents (all_values a.contents.now.items (valuation_of a.contents.now.table (c.loop-i.i + 1)))
 own_read c =
     let a = c.args in
     let i = c.loop-i.i in
-    c.own_cut-share.ensures.own ∙ ap (λ row. own_cut a.sheet.agents (all_values a.sheet.items row)) (sym (nth-next [] a.table i))
+    c.own_cut-share.ensures.own ∙ ap (λ row. own_cut a.contents.now.agents (all_values a.contents.now.items row)) (sym (nth-next [] a.contents.now.table i))
 
 pub loop-i-preserved : goal.loop-i-preserved
 loop-i-preserved c =
@@ -32,9 +31,9 @@ loop-i-preserved c =
     let own = c.own_cut-share in
     let read = own_read (goal.at.loop-i-preserved c).After-own_cut-share in (
       ap (λ shares. store shares l.i own.result.share) l.invariant.0
-          ∙ padded-range most_agents 0 (share_of (contents a.sheet a.table)) l.i own.result.share (omega arith) (ap (λ o. o.share) read),
+          ∙ padded-range most_agents 0 (share_of a.contents.now) l.i own.result.share (omega arith) (ap (λ o. o.share) read),
       ap (λ cuts. store cuts l.i own.result.partition) l.invariant.1
-          ∙ padded-range most_agents blank_cut (cut_at a.sheet.agents a.sheet.items a.table) l.i own.result.partition (omega arith) (ap (λ o. o.partition) read),
+          ∙ padded-range most_agents blank_cut (cut_at a.contents.now.agents a.contents.now.items a.contents.now.table) l.i own.result.partition (omega arith) (ap (λ o. o.partition) read),
       store-small greatest_sum l.shares l.i own.result.share own.ensures.bound l.invariant.2,
     )
 
@@ -42,8 +41,8 @@ pub returns-clause-each : goal.returns-clause-each
 returns-clause-each c =
     let a = c.args in
     let l = c.loop-i in
-    let e : l.i ≡ a.sheet.agents = omega arith in
-    ap₂ made (rw e at l.invariant.0) (rw e at l.invariant.1) ∙ sym (stored-range a.sheet.agents a.sheet.items a.table)
+    let e : l.i ≡ a.contents.now.agents = omega arith in
+    ap₂ made (rw e at l.invariant.0) (rw e at l.invariant.1) ∙ sym (stored-range a.contents.now.agents a.contents.now.items a.contents.now.table)
   where
     made : List ℕ → List (List ℕ) → Shares
     made shares cuts = record { shares = shares; cuts = cuts }

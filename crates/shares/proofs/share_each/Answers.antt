@@ -1,7 +1,6 @@
 use mathlib.Core.Path.{ap, ◌∙◌}
 use native.Mathlib.Omega.{arith}
 use Rattle.sheet.specs.Answers.{map_answer}
-use Rattle.sheet.specs.Contents.{contents}
 use Rattle.growth.proofs.Growths.{most_growths}
 use Rattle.shares.specs.Stored.{stored}
 use Rattle.shares.proofs.Allowance.{sharing_within-most}
@@ -10,4 +9,4 @@ use Rattle.shares.proofs.share_each.Goals as goal
 pub returns-clause-answer : goal.returns-clause-answer
 returns-clause-answer c =
     let a = c.args in
-    c.share_each_within.ensures.answer ∙ ap (map_answer stored) (sharing_within-most (contents a.sheet a.table) most_growths (omega arith))
+    c.share_each_within.ensures.answer ∙ ap (map_answer stored) (sharing_within-most a.contents.now most_growths (omega arith))

@@ -6,4 +6,4 @@ use Rattle.shares.proofs.EachAgent.{is_covered}
 use Rattle.shares.proofs.shares_covered.Given as goal
 
 abbrev pub invariant-loop-i : goal.invariant-loop-i
-invariant-loop-i l = all (is_covered l.sheet.agents l.sheet.items l.table) (range 1 l.i) ≡ true
+invariant-loop-i l = all (is_covered l.contents.agents l.contents.items l.contents.table) (range 1 l.i) ≡ true
