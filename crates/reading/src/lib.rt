@@ -46,7 +46,11 @@ pub fn read(text: &[u8]) -> Result<Contents, Refusal>
     end_of_text(text, last).ok_or(Refusal::EndMalformed)?;
     let table = table.ok_or(Refusal::MarkTooGreat)?;
     let Sheet { agents, items } = counts;
-    Ok(Contents { agents, items, table })
+    Ok(Contents {
+        agents,
+        items,
+        table,
+    })
 }
 
 // The same of a text that goes on behind the line `(end)` of its sheet, and the place where it does.
@@ -57,6 +61,10 @@ pub fn read_front(text: &[u8]) -> Result<(Contents, Cursor), Refusal>
     let next = end_line(text, last).ok_or(Refusal::EndMalformed)?;
     let table = table.ok_or(Refusal::MarkTooGreat)?;
     let Sheet { agents, items } = counts;
-    let contents = Contents { agents, items, table };
+    let contents = Contents {
+        agents,
+        items,
+        table,
+    };
     Ok((contents, next))
 }
