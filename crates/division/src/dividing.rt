@@ -15,7 +15,7 @@ use serving::cutter_of;
 use settling::settle_round;
 use sheet::amounts::Amounts;
 use sheet::naming::items_of;
-use sheet::{Sets, Sheet, Table};
+use sheet::{Contents, Sets, Sheet};
 use terms::Terms;
 
 // What has been handed out: the set of items of each agent, the cutter of each round in turn (0 after the last), the number of rounds.
@@ -63,50 +63,57 @@ fn hand_out(allocation: Allocation, cutter: u8, served: &[u8], sets: Sets) -> Al
     }
 }
 
-// The cutter's partition of the items left into as many bundles as there are agents left, with an allowance that does not stop the cut.
-fn cut_left(table: Table, cutter: u8, left: u16, set: u16, allowance: u32) -> Partition
-    requires { Mem cutter (agents_in left) × Cuttable left set × EnoughFor allowance left set }
-    ensures { result ≡ placed (cut_left table cutter (agents_in left) (items_of set)) }
-{
-    let agents = items_of(left);
-    let Ok(cutting) = cut(table[cutter as usize - 1], set, agents.len(), allowance) else {
-        unreachable!()
-    };
-    cutting.partition
+// What stays the same from round to round: the sheet with the shares of its agents and the terms, and the allowance of each cut.
+#[derive(Clone, Copy)]
+pub(crate) struct Instance<'a> {
+    pub(crate) contents: &'a Contents,
+    pub(crate) shares: Amounts,
+    pub(crate) terms: Terms,
+    pub(crate) allowance: u32,
 }
 
-// The allocation once the agents left have divided the items left: one round, and the agents that wait divide what it leaves, with the same
-// allowance, by the terms. `cutter` cuts this round, and `partition` is its cut of the items left.
-pub(crate) fn divide_left(
-    table: Table,
-    shares: Amounts,
-    terms: Terms,
-    allowance: u32,
-    cutter: u8,
-    left: u16,
-    set: u16,
-    partition: Partition,
-    allocation: Allocation,
-) -> Allocation
-    requires { Ready terms shares allowance left set allocation × (cutter ≡ cutter_of (agents_in left)) × (partition ≡ placed (cut_left table cutter (agents_in left) (items_of set))) }
-    ensures { result ≡ allotted_all (instance_from terms table shares) (agents_in left) (items_of set) allocation }
-{
-    let round = settle_round(table, shares, terms, cutter, left, set, partition);
-    let given = hand_out(allocation, cutter, round.served.as_slice(), round.sets);
-    if round.waiting == 0 {
-        return given;
+impl Instance<'_> {
+    // The cutter's partition of the items left into as many bundles as there are agents left, with an allowance that does not stop the cut.
+    fn cut_left(&self, cutter: u8, left: u16, set: u16) -> Partition
+        requires { Mem cutter (agents_in left) × Cuttable left set × EnoughFor self.now.allowance left set }
+        ensures { result ≡ placed (cut_left self.now.contents.now.table cutter (agents_in left) (items_of set)) }
+    {
+        let row = self.contents.table[cutter as usize - 1];
+        let agents = items_of(left);
+        let Ok(cutting) = cut(row, set, agents.len(), self.allowance) else {
+            unreachable!()
+        };
+        cutting.partition
     }
-    let next_cutter = cutter_of(round.waiting);
-    let next = cut_left(table, next_cutter, round.waiting, round.left, allowance);
-    divide_left(
-        table,
-        shares,
-        terms,
-        allowance,
-        next_cutter,
-        round.waiting,
-        round.left,
-        next,
-        given,
-    )
+
+    // The allocation once the agents left have divided the items left: one round, and the agents that wait divide what it leaves, with the
+    // same allowance, by the terms. `cutter` cuts this round, and `partition` is its cut of the items left.
+    pub(crate) fn divide_left(
+        &self,
+        cutter: u8,
+        left: u16,
+        set: u16,
+        partition: Partition,
+        allocation: Allocation,
+    ) -> Allocation
+        requires { Ready self.now.terms self.now.shares self.now.allowance left set allocation × (cutter ≡ cutter_of (agents_in left)) × (partition ≡ placed (cut_left self.now.contents.now.table cutter (agents_in left) (items_of set))) }
+        ensures { result ≡ allotted_all (instance_from self.now.terms self.now.contents.now.table self.now.shares) (agents_in left) (items_of set) allocation }
+    {
+        let round = settle_round(
+            self.contents.table,
+            self.shares,
+            self.terms,
+            cutter,
+            left,
+            set,
+            partition,
+        );
+        let given = hand_out(allocation, cutter, round.served.as_slice(), round.sets);
+        if round.waiting == 0 {
+            return given;
+        }
+        let next_cutter = cutter_of(round.waiting);
+        let next = self.cut_left(next_cutter, round.waiting, round.left);
+        self.divide_left(next_cutter, round.waiting, round.left, next, given)
+    }
 }

@@ -4,13 +4,12 @@
 ghost use Rattle.std.specs.Prelude.{◌≡◌};
 ghost use Rattle.sheet.specs.Answers.{map_answer};
 ghost use Rattle.sheet.specs.Refusals.{answer_of};
-ghost use Rattle.sheet.specs.Contents.{contents};
 ghost use Rattle.rounds.specs.Division.{division_by_terms, answer};
 ghost use Rattle.division.specs.Stored.{stored};
 ghost use Rattle.division.specs.Promise.{Promised};
 ghost use Rattle.division.specs.internal.Shared.{IsShared};
 
-use crate::dividing::{Allocation, divide_left, nothing_handed_out};
+use crate::dividing::{Allocation, Instance, nothing_handed_out};
 use cut::Partition;
 use grading::{Assessed, assess};
 use serving::cutter_of;
@@ -18,7 +17,7 @@ use shares::{Shares, share_each_within};
 use sheet::amounts::Amounts;
 use sheet::naming::all_items;
 use sheet::refusal::Refusal;
-use sheet::{Sets, Sheet, Table};
+use sheet::{Contents, Sets, Sheet};
 use terms::{Terms, terms_for};
 
 mod dividing;
@@ -39,29 +38,31 @@ pub struct Division {
 }
 
 // The division of a table that is not refused, by the terms, from the shares and the cuts: the first cutter's own cut serves the first round.
-fn divide_shared(table: Table, sheet: Sheet, terms: Terms, allowance: u32, own: Shares) -> Division
-    requires { IsShared (contents sheet table) terms allowance own }
-    ensures { result ≡ stored (division_by_terms (contents sheet table) terms) }
+fn divide_shared(contents: &Contents, terms: Terms, allowance: u32, own: Shares) -> Division
+    requires { IsShared contents.now terms allowance own }
+    ensures { result ≡ stored (division_by_terms contents.now terms) }
 {
     let Shares { shares, cuts } = own;
-    let all = all_items(sheet.agents);
+    let instance = Instance {
+        contents,
+        shares,
+        terms,
+        allowance,
+    };
+    let all = all_items(contents.agents);
     let cutter = cutter_of(all);
     let Allocation {
         bundles,
         cutters,
         ..
-    } = divide_left(
-        table,
-        shares,
-        terms,
-        allowance,
+    } = instance.divide_left(
         cutter,
         all,
-        all_items(sheet.items),
+        all_items(contents.items),
         cuts[cutter as usize - 1],
         nothing_handed_out(),
     );
-    let Assessed { worths, grade, .. } = assess(table, sheet, terms, shares, bundles);
+    let Assessed { worths, grade, .. } = assess(contents, terms, shares, bundles);
     Division {
         grade,
         worths,
@@ -75,10 +76,10 @@ fn divide_shared(table: Table, sheet: Sheet, terms: Terms, allowance: u32, own: 
 // The division of a sheet. Refused as its shares are: with 4 where the agents lie outside the limits, else
 // with 5 where the items do, else with 9 where a share times the agents exceeds the sum of its marks, else with 14 where the growth
 // partitions of all items into as many bundles as agents outnumber the allowance.
-pub fn divide(table: Table, sheet: Sheet, allowance: u32) -> Result<Division, Refusal>
-    ensures answered { answer_of result ≡ map_answer stored (answer (contents sheet table) allowance) }
-    ensures promised { Promised (contents sheet table) allowance result }
+pub fn divide(contents: &Contents, allowance: u32) -> Result<Division, Refusal>
+    ensures answered { answer_of result ≡ map_answer stored (answer contents.now allowance) }
+    ensures promised { Promised contents.now allowance result }
 {
-    let own = share_each_within(table, sheet, allowance)?;
-    Ok(divide_shared(table, sheet, terms_for(sheet.agents), allowance, own))
+    let own = share_each_within(contents, allowance)?;
+    Ok(divide_shared(contents, terms_for(contents.agents), allowance, own))
 }

@@ -8,7 +8,7 @@ ghost use Rattle.rounds.specs.Division.{answer};
 ghost use Rattle.division_c.specs.Lent.{store_grade, store_bundles, store_cutters};
 
 use division::Division;
-use sheet::{Sheet, Table};
+use sheet::{Contents, Sheet, Table};
 
 // Divides the table among `agents` agents (yards) with an allowance for cutting. Answers 0 and stores the grade, each agent's bundle as
 // a set of items and the cutter of each round, 0 after the last; or answers the number of the refusal and stores nothing.
@@ -27,7 +27,12 @@ pub extern "C" fn divide_table(
     ensures bundles { bundles.new ≡ after store_bundles (answer (sheet_of agents items table.now) allowance) bundles.old }
     ensures cutters { cutters.new ≡ after store_cutters (answer (sheet_of agents items table.now) allowance) cutters.old }
 {
-    match division::divide(*table, Sheet { agents, items }, allowance) {
+    let contents = Contents {
+        agents,
+        items,
+        table: *table,
+    };
+    match division::divide(&contents, allowance) {
         Ok(division) => {
             let Division {
                 grade: graded,

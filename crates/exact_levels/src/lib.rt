@@ -9,7 +9,7 @@ ghost use Rattle.exact_levels.specs.internal.Keeping.{level_with, CanRaise, Rais
 use crate::keeping::{SERVED, keep_most};
 use sheet::amounts::Amounts;
 use sheet::naming::all_items;
-use sheet::{Row, Sheet, Table};
+use sheet::{Contents, Row, Sheet};
 
 mod keeping;
 
@@ -41,17 +41,24 @@ fn raise(valuation: Row, share: u64, levels: &mut Levels, before: u8, items: usi
     }
 }
 
-// How many of the first agents can be served from each set of the first items; both counts are cut to the limits of a sheet.
-pub fn rank(table: Table, shares: Amounts, agents: usize, items: usize) -> Levels
-    ensures { result ≡ levels_of table shares (min agents most_agents) (min items most_items) }
+// How many of the first agents can be served from each set of the items; both counts are cut to the limits of a sheet.
+pub fn rank(contents: &Contents, shares: Amounts) -> Levels
+    ensures { result ≡ levels_of contents.now.table shares (min contents.now.agents most_agents) (min contents.now.items most_items) }
 {
-    let last = agents.min(Sheet::AGENTS);
-    let counted = items.min(Sheet::ITEMS);
-    let all = all_items(items);
+    let last = contents.agents.min(Sheet::AGENTS);
+    let counted = contents.items.min(Sheet::ITEMS);
+    let all = all_items(contents.items);
     let sets = all as usize + 1;
     let mut levels: Levels = [0; SETS];
     for i in 0..last {
-        raise(table[i], shares[i], &mut levels, i as u8, counted, sets);
+        raise(
+            contents.table[i],
+            shares[i],
+            &mut levels,
+            i as u8,
+            counted,
+            sets,
+        );
     }
     levels
 }

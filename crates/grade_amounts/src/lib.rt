@@ -14,7 +14,7 @@ ghost use Rattle.grade_amounts.specs.Compared.{compared};
 use sheet::amounts::Amounts;
 use sheet::naming::all_items;
 use sheet::valuing::value_of;
-use sheet::{Row, Sets, Sheet, Table};
+use sheet::{Contents, Row, Sets, Sheet};
 
 // What the grade goes by besides the shares, for each agent: the value of its own bundle, the greatest value that it sees in any
 // bundle, the value of its own bundle times the number of agents, and the value of all items.
@@ -47,22 +47,22 @@ fn greatest_in_use(valuation: Row, agents: usize, items: usize, bundles: Sets) -
 }
 
 // What the grade goes by, for each agent; both counts are cut to the limits of a sheet.
-pub fn compare(table: Table, sheet: Sheet, bundles: Sets) -> Compared
-    ensures amounts { result ≡ compared (min sheet.agents most_agents) (profile (min sheet.agents most_agents) (min sheet.items most_items) table) (map items_of bundles) }
+pub fn compare(contents: &Contents, bundles: Sets) -> Compared
+    ensures amounts { result ≡ compared (min contents.now.agents most_agents) (profile (min contents.now.agents most_agents) (min contents.now.items most_items) contents.now.table) (map items_of bundles) }
     ensures bound { SmallAmounts result.own }
 {
-    let agents = sheet.agents.min(Sheet::AGENTS);
-    let all = all_items(sheet.items);
+    let agents = contents.agents.min(Sheet::AGENTS);
+    let all = all_items(contents.items);
     let mut own = [0; Sheet::AGENTS];
     let mut greatest = [0; Sheet::AGENTS];
     let mut multiples = [0; Sheet::AGENTS];
     let mut totals = [0; Sheet::AGENTS];
     for i in 0..agents {
-        let value = value_in_use(table[i], bundles[i], sheet.items);
+        let value = value_in_use(contents.table[i], bundles[i], contents.items);
         own[i] = value;
-        greatest[i] = greatest_in_use(table[i], agents, sheet.items, bundles);
+        greatest[i] = greatest_in_use(contents.table[i], agents, contents.items, bundles);
         multiples[i] = agents as u64 * value;
-        totals[i] = value_of(table[i], all);
+        totals[i] = value_of(contents.table[i], all);
     }
     Compared {
         own,

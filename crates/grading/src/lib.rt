@@ -3,7 +3,6 @@
 
 ghost use Rattle.std.specs.Prelude.{◌≡◌, min};
 ghost use Rattle.sheet.specs.Limits.{most_agents};
-ghost use Rattle.sheet.specs.Contents.{contents};
 ghost use Rattle.grades.specs.Assessment.{assessment_in};
 ghost use Rattle.grading.specs.Assessed.{assessed};
 ghost use Rattle.grading.specs.internal.ByAmounts.{grade_by_amounts};
@@ -11,7 +10,7 @@ ghost use Rattle.grading.specs.internal.ByAmounts.{grade_by_amounts};
 use grade_amounts::{Compared, compare};
 use margins::{Margins, margins_of, none_negative};
 use sheet::amounts::{Amounts, each_at_most};
-use sheet::{Sets, Sheet, Table};
+use sheet::{Contents, Sets};
 use terms::Terms;
 
 // The worth of each agent's bundle and its margin, 0 after the last agent, and the grade.
@@ -41,13 +40,13 @@ fn grade_by(agents: usize, compared: Compared, shares: Amounts, margins: Margins
 
 // What any allocation comes to, by the terms and the shares. Agents and items above the limits of a sheet, and items in a bundle above
 // those of the sheet, count for nothing; the terms, and the shares for the margins, are cut to their limits.
-pub fn assess(table: Table, sheet: Sheet, terms: Terms, shares: Amounts, bundles: Sets) -> Assessed
-    ensures { result ≡ assessed (assessment_in (contents sheet table) terms shares bundles) }
+pub fn assess(contents: &Contents, terms: Terms, shares: Amounts, bundles: Sets) -> Assessed
+    ensures { result ≡ assessed (assessment_in contents.now terms shares bundles) }
 {
-    let compared = compare(table, sheet, bundles);
+    let compared = compare(contents, bundles);
     let worths = compared.own;
-    let margins = margins_of(sheet.agents, terms, worths, shares);
-    let grade = grade_by(sheet.agents, compared, shares, margins);
+    let margins = margins_of(contents.agents, terms, worths, shares);
+    let grade = grade_by(contents.agents, compared, shares, margins);
     Assessed {
         worths,
         margins,

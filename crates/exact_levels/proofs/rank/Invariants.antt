@@ -17,4 +17,4 @@ pub record Ranking (table : List (List ℕ)) (shares : List ℕ) (last counted a
   pub behind : (set : ℕ) → sets ≤ set → get_or levels set 0 ≡ 0
 
 abbrev pub invariant-loop-i : goal.invariant-loop-i
-invariant-loop-i l = Ranking l.table l.shares l.last l.counted l.all l.sets l.levels l.i
+invariant-loop-i l = Ranking l.contents.table l.shares l.last l.counted l.all l.sets l.levels l.i

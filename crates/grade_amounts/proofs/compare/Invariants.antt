@@ -11,7 +11,7 @@ use Rattle.grade_amounts.specs.Compared.{own_value, greatest_bundle_value, multi
 use Rattle.grade_amounts.proofs.compare.Given as goal
 
 abbrev pub invariant-loop-i : goal.invariant-loop-i
-invariant-loop-i l = let valuations = profile l.agents (min l.sheet.items most_items) l.table in
+invariant-loop-i l = let valuations = profile l.agents (min l.contents.items most_items) l.contents.table in
     (l.own ≡ padded most_agents 0 (map (own_value l.agents valuations (map items_of l.bundles)) (range 1 l.i)))
     × (l.greatest ≡ padded most_agents 0 (map (greatest_bundle_value l.agents valuations (map items_of l.bundles)) (range 1 l.i)))
     × (l.multiples ≡ padded most_agents 0 (map (multiple_of_own l.agents valuations (map items_of l.bundles)) (range 1 l.i)))
