@@ -4,7 +4,7 @@
 ghost use Rattle.sheet.specs.Contents.{sheet_of};
 ghost use Rattle.exact_c.specs.Lent.{TableStored, TextStored};
 
-use sheet::{Sets, Sheet, Table};
+use sheet::{Contents, Sets, Sheet, Table};
 
 // Searches the table of `agents` agents (yards) for an exact division. Answers 0 and stores in `found` 1 and in `bundles` each agent's bundle as
 // a set of items, 0 after the last, or stores 0 in `found` and in all of `bundles` where there is none; or answers the number of the refusal and
@@ -19,7 +19,12 @@ pub extern "C" fn exact_table(
 ) -> u8
     ensures { TableStored (sheet_of agents items table.now) found.old bundles.old result found.new bundles.new }
 {
-    match exact_search::find_exact(*table, Sheet { agents, items }) {
+    let contents = Contents {
+        agents,
+        items,
+        table: *table,
+    };
+    match exact_search::find_exact(&contents) {
         Ok(Some(sets)) => {
             *found = 1;
             *bundles = sets;

@@ -7,7 +7,6 @@ ghost use Rattle.lists.specs.Lists.{range};
 ghost use Rattle.sheet.specs.Limits.{most_agents};
 ghost use Rattle.sheet.specs.Answers.{map_answer, after};
 ghost use Rattle.sheet.specs.Refusals.{answer_of};
-ghost use Rattle.sheet.specs.Contents.{contents};
 ghost use Rattle.writing.specs.Filled.{filling, filled};
 ghost use Rattle.writing.specs.WithText.{Writes};
 ghost use Rattle.exact_printing.specs.Printing.{longest_exact, Printed};
@@ -16,7 +15,7 @@ ghost use Rattle.exact_printing.specs.internal.SetsText.{set_group, sets_text};
 use exact_search::find_exact;
 use sheet::naming::items_of;
 use sheet::refusal::Refusal;
-use sheet::{Sets, Sheet, Table};
+use sheet::{Contents, Sets, Sheet};
 use writing::{Writer, fill};
 
 // A buffer of so many bytes is long enough for every sheet: (exact) and the line feed, a space and () for each agent, and at most three
@@ -59,12 +58,12 @@ fn print_bundles(agents: usize, bundles: Sets, buffer: &mut [u8]) -> Result<usiz
 
 // Searches a sheet for an exact division and prints it, or the word none, from the front of the buffer. Refused
 // as by `find_exact`, else with 10 where the buffer is shorter than the text; then the buffer keeps all its bytes.
-pub fn print_exact(table: Table, sheet: Sheet, buffer: &mut [u8]) -> Result<usize, Refusal>
-    ensures { Printed (contents sheet table) buffer.old (answer_of result) buffer.new }
+pub fn print_exact(contents: &Contents, buffer: &mut [u8]) -> Result<usize, Refusal>
+    ensures { Printed contents.now buffer.old (answer_of result) buffer.new }
 {
-    let exact = find_exact(table, sheet)?;
+    let exact = find_exact(contents)?;
     match exact {
-        Some(bundles) => print_bundles(sheet.agents, bundles, buffer),
+        Some(bundles) => print_bundles(contents.agents, bundles, buffer),
         None => fill(b"(exact none)\n", buffer),
     }
 }

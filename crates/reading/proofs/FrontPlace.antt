@@ -6,7 +6,7 @@ use Prim.Native.Nat.{ℕ}
 use Rattle.sheet.specs.Limits.{mark_digits}
 use Rattle.sheet.specs.Answers.{accepted, map_answer}
 use Rattle.sheet.specs.Refusals.{answer_of}
-use Rattle.sheet.specs.Contents.{Contents, contents}
+use Rattle.sheet.specs.Contents.{Contents}
 use Rattle.sheet.proofs.Answering.{accepted-of_ok}
 use Rattle.tokens.specs.Tokens.{Token, tokens}
 use Rattle.tokeniser.specs.Places.{tokens_at, start}
@@ -20,7 +20,6 @@ use Rattle.sheet_lines.specs.SheetForms.{last_line}
 use Rattle.sheet_lines.proofs.Suffixes.{head-leaves, body-leaves}
 use Rattle.reading.specs.Reading.{reading_front}
 use Rattle.reading.specs.Stored.{stored_front}
-use Rattle.reading.specs.declared.Contents as code
 use Rattle.reading.proofs.AtFront.{front-passes}
 
 module _ (text : List ℕ) (c : Contents) (behind : List Token) (e : reading_front text ≡ accepted (c, behind)) where
@@ -37,10 +36,10 @@ module _ (text : List ℕ) (c : Contents) (behind : List Token) (e : reading_fro
   pub front-leaves : tokens_at text (place_left text start behind) ≡ behind
   front-leaves = (place-leaves {s = text} {c = start} {ts = behind} (rw (tokens-start text) behind-is-last)).tokens_left
 
--- a text with a sheet that is accepted carries the counts and the table that were read, and the tokens at the place behind it
-pub front-read : (text : List ℕ) (found : code.Contents) (place : Cursor) → answer_of (Ok (found, place)) ≡ map_answer (stored_front text) (reading_front text)
-    → reading_front text ≡ accepted (contents found.sheet found.table, tokens_at text place)
+-- a text with a sheet that is accepted carries what was read, and the tokens at the place behind it
+pub front-read : (text : List ℕ) (found : Contents) (place : Cursor) → answer_of (Ok (found, place)) ≡ map_answer (stored_front text) (reading_front text)
+    → reading_front text ≡ accepted (found, tokens_at text place)
 front-read text found place told =
     let (p, read, same) = accepted-of_ok (stored_front text) (reading_front text) (found, place) told in
     read
-    ∙ ap₂ (λ f ts. accepted (contents f.sheet f.table, ts)) (sym (ap (λ q. q.0) same)) (sym (front-leaves text p.0 p.1 read) ∙ ap (tokens_at text) (sym (ap (λ q. q.1) same)))
+    ∙ ap₂ (λ f ts. accepted (f, ts)) (sym (ap (λ q. q.0) same)) (sym (front-leaves text p.0 p.1 read) ∙ ap (tokens_at text) (sym (ap (λ q. q.1) same)))

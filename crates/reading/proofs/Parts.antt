@@ -8,7 +8,7 @@ use Prim.Native.Nat.{ℕ}
 use Rattle.sheet.specs.Limits.{mark_limits}
 use Rattle.sheet.specs.Answers.{refused, accepted, and_then, map_answer}
 use Rattle.sheet.specs.Refusals.{number, answer_of}
-use Rattle.sheet.specs.Contents.{contents}
+use Rattle.sheet.specs.Contents.{sheet_of}
 use Rattle.sheet.specs.declared.Sheet.{Sheet}
 use Rattle.sheet.specs.declared.refusal.Refusal.{Refusal}
 use Rattle.sheet.proofs.Answering.{refused-of_err, accepted-of_ok}
@@ -69,5 +69,5 @@ module _ (text : List ℕ) (sheet : Sheet) (table : Option (List (List ℕ))) (l
       pub refused-mark : table ≡ None → sheet_at_front mark_limits may_follow text ≡ refused 8
       refused-mark none = mark-too-great text b.read may_follow (tokens_at text next) end-read.read (sym none ∙ b.table_is)
 
-      pub accepted-table : (t : List (List ℕ)) → table ≡ Some t → sheet_at_front mark_limits may_follow text ≡ accepted (contents sheet t, tokens_at text next)
+      pub accepted-table : (t : List (List ℕ)) → table ≡ Some t → sheet_at_front mark_limits may_follow text ≡ accepted (sheet_of sheet.agents sheet.items t, tokens_at text next)
       accepted-table t some = sheet-read text b.read may_follow (tokens_at text next) end-read.read t (sym some ∙ b.table_is)

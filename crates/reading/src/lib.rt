@@ -6,22 +6,15 @@ ghost use Rattle.sheet.specs.Limits.{mark_limits};
 ghost use Rattle.sheet.specs.Answers.{map_answer};
 ghost use Rattle.sheet.specs.Refusals.{answer_of};
 ghost use Rattle.reading.specs.Reading.{reading, reading_front};
-ghost use Rattle.reading.specs.Stored.{stored, stored_front};
+ghost use Rattle.reading.specs.Stored.{stored_front};
 ghost use Rattle.reading.specs.internal.BeforeEnd.{lines_before_end, stored_lines};
 
 use sheet::refusal::Refusal;
-use sheet::{Sheet, Table, agents_allowed, items_allowed};
+use sheet::{Contents, Sheet, Table, agents_allowed, items_allowed};
 use sheet_lines::body::read_body;
 use sheet_lines::end::{end_line, end_of_text};
 use sheet_lines::head::read_head;
 use tokeniser::Cursor;
-
-// What a sheet carries: the counts, and the table of marks.
-#[derive(Clone, Copy)]
-pub struct Contents {
-    pub sheet: Sheet,
-    pub table: Table,
-}
 
 // The first reason to turn a text down before the line `(end)`, or what stands before that line: the counts, the table, where all marks
 // are allowed, and the place after the lines of the yards.
@@ -47,20 +40,31 @@ fn before_end(text: &[u8]) -> Result<(Sheet, Option<Table>, Cursor), Refusal>
 
 // The first reason to turn a text down, or the sheet that it holds.
 pub fn read(text: &[u8]) -> Result<Contents, Refusal>
-    ensures { answer_of result ≡ map_answer stored (reading text.now) }
+    ensures { answer_of result ≡ reading text.now }
 {
-    let (sheet, table, last) = before_end(text)?;
+    let (counts, table, last) = before_end(text)?;
     end_of_text(text, last).ok_or(Refusal::EndMalformed)?;
     let table = table.ok_or(Refusal::MarkTooGreat)?;
-    Ok(Contents { sheet, table })
+    let Sheet { agents, items } = counts;
+    Ok(Contents {
+        agents,
+        items,
+        table,
+    })
 }
 
 // The same of a text that goes on behind the line `(end)` of its sheet, and the place where it does.
 pub fn read_front(text: &[u8]) -> Result<(Contents, Cursor), Refusal>
     ensures { answer_of result ≡ map_answer (stored_front text.now) (reading_front text.now) }
 {
-    let (sheet, table, last) = before_end(text)?;
+    let (counts, table, last) = before_end(text)?;
     let next = end_line(text, last).ok_or(Refusal::EndMalformed)?;
     let table = table.ok_or(Refusal::MarkTooGreat)?;
-    Ok((Contents { sheet, table }, next))
+    let Sheet { agents, items } = counts;
+    let contents = Contents {
+        agents,
+        items,
+        table,
+    };
+    Ok((contents, next))
 }

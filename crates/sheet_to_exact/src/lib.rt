@@ -11,6 +11,6 @@ use sheet::refusal::Refusal;
 pub fn show_exact(text: &[u8], buffer: &mut [u8]) -> Result<usize, Refusal>
     ensures { Shown text.now buffer.old (answer_of result) buffer.new }
 {
-    let read = reading::read(text)?;
-    exact_printing::print_exact(read.table, read.sheet, buffer)
+    let contents = reading::read(text)?;
+    exact_printing::print_exact(&contents, buffer)
 }

@@ -15,6 +15,6 @@ pub fn write_strict(text: &[u8], buffer: &mut [u8]) -> Result<usize, Refusal>
     ensures answer { answer_of result ≡ map_answer length (rewriting text.now (length buffer.old)) }
     ensures buffer { buffer.new ≡ after filled (rewriting text.now (length buffer.old)) buffer.old }
 {
-    let read = reading::read(text)?;
-    strict_writing::write_sheet(read.table, read.sheet, buffer)
+    let contents = reading::read(text)?;
+    strict_writing::write_sheet(&contents, buffer)
 }

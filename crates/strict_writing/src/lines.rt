@@ -1,11 +1,10 @@
 // The lines of a strict text, one behind the other, token by token, by a writer over a lent buffer.
 ghost use Rattle.std.specs.Prelude.{take};
-ghost use Rattle.sheet.specs.Contents.{contents};
 ghost use Rattle.text.specs.Decimal.{spaced_numbers};
 ghost use Rattle.writing.specs.WithText.{Writes};
 ghost use Rattle.strict_text.specs.StrictText.{head_text, yard_text, yard_texts, rows_in_use, strict_text};
 
-use sheet::{Mark, Row, Sheet, Table};
+use sheet::{Contents, Mark, Row};
 use sheet_lines::forms::{
     BEFORE_AGENTS, BEFORE_ITEMS, BEFORE_MARKS, BEFORE_TURN, LAST_LINE, LINE_END,
 };
@@ -43,20 +42,21 @@ fn put_yard(writer: &mut Writer, agent: usize, marks: Row, items: usize)
     writer.bytes(&LINE_END);
 }
 
-// The lines of the first agents.
-fn put_yards(writer: &mut Writer, table: Table, agents: usize, items: usize)
-    ensures { Writes writer.old (yard_texts 1 (rows_in_use agents items table)) writer.new }
+// The lines of the agents.
+fn put_yards(writer: &mut Writer, contents: &Contents)
+    ensures { Writes writer.old (yard_texts 1 (rows_in_use contents.now.agents contents.now.items contents.now.table)) writer.new }
 {
-    for (i, marks) in table[..agents.min(table.len())].iter().enumerate() {
-        put_yard(writer, i + 1, *marks, items);
+    let agents = contents.agents.min(contents.table.len());
+    for (i, marks) in contents.table[..agents].iter().enumerate() {
+        put_yard(writer, i + 1, *marks, contents.items);
     }
 }
 
 // The whole strict text of a sheet.
-pub fn put_sheet(writer: &mut Writer, table: Table, sheet: Sheet)
-    ensures { Writes writer.old (strict_text (contents sheet table)) writer.new }
+pub fn put_sheet(writer: &mut Writer, contents: &Contents)
+    ensures { Writes writer.old (strict_text contents.now) writer.new }
 {
-    put_head(writer, sheet.agents, sheet.items);
-    put_yards(writer, table, sheet.agents, sheet.items);
+    put_head(writer, contents.agents, contents.items);
+    put_yards(writer, contents);
     writer.bytes(&LAST_LINE);
 }

@@ -1,11 +1,10 @@
 use mathlib.Core.Path.{◌∙◌}
 use mathlib.Core.List.{flat_map}
 use native.Mathlib.Omega.{arith}
-use lib.ListN.{get_or, length-take}
+use lib.ListN.{length-take}
 use lib.Seq.{get_or-take}
 use Rattle.lists.proofs.places.Places.{nth-next}
 use Rattle.lists.proofs.members.FlatMap.{flat_map-next}
-use Rattle.sheet.specs.Sets.{items_of}
 use Rattle.writing.proofs.Written.{nothing, ◌then◌}
 use Rattle.exact_printing.specs.internal.SetsText.{set_group}
 use Rattle.exact_printing.proofs.put_bundles.Goals as goal
