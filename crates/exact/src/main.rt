@@ -2,6 +2,7 @@
 #![tactic(auto)]
 
 use sheet::Sheet;
+use sheet::refusal::numbered;
 use std::io;
 
 // One byte more than the longest text, so that a longer one is seen to be longer.
@@ -12,6 +13,6 @@ fn main(rt: HostRuntime) -> io::Result<()> {
     let got = input::read_full(&mut rt.stdin(), &mut text)?;
     let mut buffer = [0u8; exact_printing::LONGEST];
     let answer = sheet_to_exact::show_exact(&text[..got], &mut buffer);
-    let length = reply::reply(answer, &mut buffer);
+    let length = reply::reply(numbered(answer), &mut buffer);
     rt.write_all(&buffer[..length])
 }

@@ -4,6 +4,7 @@
 ghost use Rattle.sheet.specs.Contents.{sheet_of};
 ghost use Rattle.exact_c.specs.Lent.{TableStored, TextStored};
 
+use sheet::refusal::numbered;
 use sheet::{Contents, Sets, Sheet, Table};
 
 // Searches the table of `agents` agents (yards) for an exact division. Answers 0 and stores in `found` 1 and in `bundles` each agent's bundle as
@@ -46,5 +47,5 @@ pub extern "C" fn exact_text(text: &[u8], buffer: &mut [u8], length: &mut usize)
     ensures { TextStored text.now buffer.old length.old result buffer.new length.new }
 {
     let answer = sheet_to_exact::show_exact(text, buffer);
-    reply::store_length(answer, length)
+    reply::store_length(numbered(answer), length)
 }

@@ -2,6 +2,7 @@
 #![tactic(auto)]
 
 use sheet::Sheet;
+use sheet::refusal::numbered;
 use sheet_to_judgement::accepted;
 use std::io;
 
@@ -13,6 +14,6 @@ fn main(rt: HostRuntime) -> io::Result<()> {
     let got = input::read_full(&mut rt.stdin(), &mut text)?;
     let mut buffer = [0u8; accepted::LONGEST];
     let answer = sheet_to_judgement::judge_division(&text[..got], &mut buffer);
-    let length = reply::reply(answer, &mut buffer);
+    let length = reply::reply(numbered(answer), &mut buffer);
     rt.write_all(&buffer[..length])
 }

@@ -8,6 +8,8 @@ ghost use Rattle.writing.specs.Answered.{length_stored};
 ghost use Rattle.writing.specs.Filled.{filled};
 ghost use Rattle.sheet_to_judgement.specs.TextJudged.{judgement_from};
 
+use sheet::refusal::numbered;
+
 // Prints the judgement of the division that stands behind the sheet of `text` into the lent buffer, stores the length printed and answers 0;
 // or answers the number of the refusal and leaves the buffer and the length as they are.
 #[unsafe(no_mangle)]
@@ -17,5 +19,5 @@ pub extern "C" fn judge_text(text: &[u8], buffer: &mut [u8], length: &mut usize)
     ensures length { length.new ≡ after length_stored (judgement_from text.now (ListN.length buffer.old)) length.old }
 {
     let answer = sheet_to_judgement::judge_division(text, buffer);
-    reply::store_length(answer, length)
+    reply::store_length(numbered(answer), length)
 }

@@ -5,7 +5,7 @@
 use printing::LONGEST;
 use reply::reply;
 use sheet::Sheet;
-use sheet::refusal::Refusal;
+use sheet::refusal::{Refusal, numbered};
 use std::fs::{File, Files};
 use std::io::Read;
 use std::{env, io};
@@ -60,7 +60,7 @@ fn show<E: Fn(&[u8], &mut [u8]) -> Result<usize, Refusal>>(
 {
     let mut buffer = [0u8; LONGEST];
     let answer = entry(text, &mut buffer);
-    let length = reply(answer, &mut buffer);
+    let length = reply(numbered(answer), &mut buffer);
     print(rt, &buffer[..length])?;
     match answer {
         Ok(written) => show_shorter(rt, entry, text, written),
@@ -85,7 +85,7 @@ fn show_shorter<E: Fn(&[u8], &mut [u8]) -> Result<usize, Refusal>>(
     let mut buffer = [0u8; LONGEST];
     let answer = entry(text, &mut buffer[..shorter]);
     let mut line = [0u8; LONGEST];
-    let length = reply(answer, &mut line);
+    let length = reply(numbered(answer), &mut line);
     print(rt, &line[..length])
 }
 

@@ -8,6 +8,8 @@ ghost use Rattle.writing.specs.Answered.{length_stored};
 ghost use Rattle.writing.specs.Filled.{filled};
 ghost use Rattle.sheet_to_division.specs.ShareOut.{share_out};
 
+use sheet::refusal::numbered;
+
 // Prints the division of the sheet that `text` holds, with an allowance for cutting, into the lent buffer, stores the length printed and
 // answers 0; or answers the number of the refusal and leaves the buffer and the length as they are.
 #[unsafe(no_mangle)]
@@ -22,5 +24,5 @@ pub extern "C" fn shareout_text(
     ensures length { length.new ≡ after length_stored (share_out text.now allowance (ListN.length buffer.old)) length.old }
 {
     let answer = sheet_to_division::share_out(text, allowance, buffer);
-    reply::store_length(answer, length)
+    reply::store_length(numbered(answer), length)
 }

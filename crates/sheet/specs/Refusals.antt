@@ -26,3 +26,8 @@ number reason.AllowanceTooSmall = 14
 abbrev pub answer_of : {A : Type 0} → Result A Refusal → Answer A
 answer_of (Ok a) = accepted a
 answer_of (Err r) = refused (number r)
+
+-- the same where the code gives the number itself
+abbrev pub numbered_answer : {A : Type 0} → Result A ℕ → Answer A
+numbered_answer (Ok a) = accepted a
+numbered_answer (Err n) = refused n

@@ -1,6 +1,6 @@
 // The reasons to turn an input down.
 ghost use Rattle.std.specs.Prelude.{◌≡◌};
-ghost use Rattle.sheet.specs.Refusals.{number};
+ghost use Rattle.sheet.specs.Refusals.{number, answer_of, numbered_answer};
 
 // A reason to turn an input down (document 01, "Reasons to turn a sheet down, in checking order"; 11 to 13 by order 5 of document 02, 14
 // by its order 7).
@@ -44,4 +44,11 @@ impl Refusal {
             Refusal::AllowanceTooSmall => 14,
         }
     }
+}
+
+// A result with the number of its reason, as it goes to those outside.
+pub fn numbered<T>(answer: Result<T, Refusal>) -> Result<T, u8>
+    ensures { numbered_answer result ≡ answer_of answer }
+{
+    answer.map_err(|reason| reason.number())
 }

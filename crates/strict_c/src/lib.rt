@@ -8,6 +8,8 @@ ghost use Rattle.writing.specs.Answered.{length_stored};
 ghost use Rattle.writing.specs.Filled.{filled};
 ghost use Rattle.sheet_to_strict.specs.Rewriting.{rewriting};
 
+use sheet::refusal::numbered;
+
 // Writes the strict text of the sheet that `text` holds into the lent buffer, stores the length written and answers 0; or answers the
 // number of the refusal and leaves the buffer and the length as they are.
 #[unsafe(no_mangle)]
@@ -17,5 +19,5 @@ pub extern "C" fn strict_text(text: &[u8], buffer: &mut [u8], length: &mut usize
     ensures length { length.new ≡ after length_stored (rewriting text.now (ListN.length buffer.old)) length.old }
 {
     let answer = sheet_to_strict::write_strict(text, buffer);
-    reply::store_length(answer, length)
+    reply::store_length(numbered(answer), length)
 }
