@@ -3,7 +3,6 @@
 
 ghost use Rattle.std.specs.Prelude.{◌≡◌, map, length};
 ghost use Rattle.sheet.specs.Limits.{most_agents};
-ghost use Rattle.sheet.specs.Contents.{contents};
 ghost use Rattle.sheet.specs.Answers.{map_answer};
 ghost use Rattle.sheet.specs.Refusals.{answer_of};
 ghost use Rattle.shares.specs.Known.{SharesIn};
@@ -18,7 +17,7 @@ use margins::Margins;
 use shares::share_each;
 use sheet::amounts::Amounts;
 use sheet::refusal::Refusal;
-use sheet::{Sets, Sheet, Table};
+use sheet::{Contents, Sets, Sheet};
 use stated_figures::figures_true;
 use stated_items::{all_in_one, all_of_sheet};
 use terms::{Terms, terms_for};
@@ -33,31 +32,21 @@ fn bundles_of(lines: [StatedLine; Sheet::AGENTS]) -> Sets
 
 // The margin of each agent, 0 after the last, on a division of a table that is not refused, by the terms and by the shares of its agents.
 fn judge_shared(
-    table: Table,
-    sheet: Sheet,
+    contents: &Contents,
     terms: Terms,
     shares: Amounts,
     division: Stated,
 ) -> Result<Margins, Refusal>
-    requires { SharesIn (contents sheet table) shares × SmallTerms terms }
-    ensures { answer_of result ≡ map_answer stored (judging_by (contents sheet table) terms (stated_in sheet.agents (Some division))) }
+    requires { SharesIn contents.now shares × SmallTerms terms }
+    ensures { answer_of result ≡ map_answer stored (judging_by contents.now terms (stated_in contents.now.agents (Some division))) }
 {
-    let Sheet { agents, items } = sheet;
-    let Stated { grade, lines } = division;
+    let Contents { agents, items, .. } = *contents;
+    let lines = division.lines;
     let bundles = bundles_of(lines);
-    let assessed = assess(table, sheet, terms, shares, bundles);
+    let assessed = assess(contents, terms, shares, bundles);
     let named = all_of_sheet(bundles, lines, agents, items);
     let once = all_in_one(bundles, lines, agents, items);
-    let correct = figures_true(
-        table,
-        agents,
-        items,
-        shares,
-        assessed.worths,
-        lines,
-        assessed.grade,
-        grade,
-    );
+    let correct = figures_true(contents, shares, assessed.worths, assessed.grade, division);
     if !named {
         return Err(Refusal::DivisionMalformed);
     }
@@ -73,11 +62,11 @@ fn judge_shared(
 // The margin of each agent, 0 after the last, where a division of a sheet is read and all that it states is true, by the terms of document 01. Refused as the
 // shares of the sheet are; else with 11 where the division is not read or names an item that is not on the sheet, with 12 where an item is in
 // no bundle or in two, of the division or of a cut, and with 13 where a worth, a share, a cut or the grade is false.
-pub fn judge(table: Table, sheet: Sheet, division: Option<Stated>) -> Result<Margins, Refusal>
-    ensures { answer_of result ≡ map_answer stored (judging (contents sheet table) (stated_in sheet.agents division)) }
+pub fn judge(contents: &Contents, division: Option<Stated>) -> Result<Margins, Refusal>
+    ensures { answer_of result ≡ map_answer stored (judging contents.now (stated_in contents.now.agents division)) }
 {
-    let own = share_each(table, sheet)?;
-    let terms = terms_for(sheet.agents);
+    let own = share_each(contents)?;
+    let terms = terms_for(contents.agents);
     let division = division.ok_or(Refusal::DivisionMalformed)?;
-    judge_shared(table, sheet, terms, own.shares, division)
+    judge_shared(contents, terms, own.shares, division)
 }

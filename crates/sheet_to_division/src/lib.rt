@@ -16,8 +16,8 @@ pub fn share_out(text: &[u8], allowance: u32, buffer: &mut [u8]) -> Result<usize
     ensures answer { answer_of result ≡ map_answer length (share_out text.now allowance (length buffer.old)) }
     ensures buffer { buffer.new ≡ after filled (share_out text.now allowance (length buffer.old)) buffer.old }
 {
-    let read = reading::read(text)?;
-    printing::print_division(read.table, read.sheet, allowance, buffer)
+    let contents = reading::read(text)?;
+    printing::print_division(&contents, allowance, buffer)
 }
 
 // The same with the allowance of the dividing program, which is enough for every sheet.

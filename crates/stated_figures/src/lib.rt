@@ -6,10 +6,10 @@ ghost use Rattle.sheet.specs.Limits.{most_agents, most_items, InUse};
 ghost use Rattle.sheet.specs.Sets.{items_of};
 ghost use Rattle.stated_truth.specs.Lines.{stated_line, least_to, line_true_to, lines_true, figures_true_by};
 
-use division_reading::StatedLine;
+use division_reading::{Stated, StatedLine};
 use grade_amounts::value_in_use;
 use sheet::amounts::Amounts;
-use sheet::{Row, Sets, Sheet, Table};
+use sheet::{Contents, Row, Sets, Sheet, Table};
 
 // Whether no bundle of a cut is worth less than the share.
 fn cut_reaches(valuation: Row, agents: usize, items: usize, cut: Sets, share: u64) -> bool
@@ -53,20 +53,17 @@ fn lines_true(
     (0..agents).all(|i| line_true(table[i], agents, items, shares[i], worths[i], lines[i]))
 }
 
-// Whether all lines are true, and the grade that is stated is the grade; both counts are cut to the limits of a sheet.
+// Whether all lines of a division are true, and the grade that it states is the grade; both counts are cut to the limits of a sheet.
 pub fn figures_true(
-    table: Table,
-    agents: usize,
-    items: usize,
+    contents: &Contents,
     shares: Amounts,
     worths: Amounts,
-    lines: [StatedLine; Sheet::AGENTS],
     grade: u8,
-    stated: u8,
+    stated: Stated,
 ) -> bool
-    ensures { result ≡ figures_true_by (min agents most_agents) (min items most_items) table shares worths lines grade stated }
+    ensures { result ≡ figures_true_by (min contents.now.agents most_agents) (min contents.now.items most_items) contents.now.table shares worths stated.lines grade stated.grade }
 {
-    let last = agents.min(Sheet::AGENTS);
-    let counted = items.min(Sheet::ITEMS);
-    lines_true(table, last, counted, shares, worths, lines) && stated == grade
+    let last = contents.agents.min(Sheet::AGENTS);
+    let counted = contents.items.min(Sheet::ITEMS);
+    lines_true(contents.table, last, counted, shares, worths, stated.lines) && stated.grade == grade
 }

@@ -42,15 +42,16 @@ module _ (sheet : Contents) (allowance : ℕ) where
       let w = answer-accepted sheet allowance got.0 got.1 in
       record { limits = w.1; by_rounds = got.1 ∙ ap accepted w.0; stored_is = got.2 ∙ ap stored w.0 }
 
-module _ {sheet : Contents} {allowance : ℕ} {d : StoredDivision} (is : IsDivided sheet allowance d) where
-  -- its text is the printed text of the division
-  text-printed : outcome_text sheet.agents sheet.items d ≡ printed sheet (division_by_rounds sheet)
-  text-printed = rw is.stored_is (outcome_text-divided sheet (division_by_rounds sheet) is.limits.few_items (division_by_rounds-printable sheet is.limits.some))
-
-  pub division-printed : (room : ℕ) → filling room (outcome_text sheet.agents sheet.items d) ≡ printing sheet allowance room
+  -- the text of the division, which is printed
+  pub division-printed : answer sheet allowance ≡ accepted (division_by_rounds sheet) → (room : ℕ) → filling room (printed sheet (division_by_rounds sheet)) ≡ printing sheet allowance room
   unfolding printing
-  division-printed room = ap (filling room) text-printed ∙ sym (ap (λ o. and_then o (λ d. filling room (printed sheet d))) is.by_rounds)
+  division-printed by_rounds room = sym (ap (λ o. and_then o (λ d. filling room (printed sheet d))) by_rounds)
 
-  -- and no longer than the longest
-  pub text-short : ((i k : ℕ) → get_or (get_or sheet.table i []) k 0 < value_bound) → length (outcome_text sheet.agents sheet.items d) ≤ longest_printed
-  text-short small = rw text-printed (division_by_rounds-length sheet is.limits.some is.limits.few_items (λ i k. omega (arith, small (i - 1) (k - 1))) is.limits.few)
+module _ (sheet : Contents) (limits : CountsWithin sheet.agents sheet.items) where
+  -- the text of what the code has is the printed text of the division
+  pub text-printed : (d : StoredDivision) → d ≡ stored (division_by_rounds sheet) → outcome_text sheet.agents sheet.items d ≡ printed sheet (division_by_rounds sheet)
+  text-printed d stored_is = rw stored_is (outcome_text-divided sheet (division_by_rounds sheet) limits.few_items (division_by_rounds-printable sheet limits.some))
+
+  -- it is no longer than the longest
+  pub text-short : ((i k : ℕ) → get_or (get_or sheet.table i []) k 0 < value_bound) → length (printed sheet (division_by_rounds sheet)) ≤ longest_printed
+  text-short small = division_by_rounds-length sheet limits.some limits.few_items (λ i k. omega (arith, small (i - 1) (k - 1))) limits.few
