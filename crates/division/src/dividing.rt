@@ -18,7 +18,8 @@ use sheet::naming::items_of;
 use sheet::{Contents, Sets, Sheet};
 use terms::Terms;
 
-// What has been handed out: the set of items of each agent, the cutter of each round in turn (0 after the last), the number of rounds.
+// What has been handed out: the set of items of each agent, the cutter of each round in turn (0 after the last), the number of rounds. The
+// cutters are no short list, since a division stores them in six places (`divide_table`).
 #[derive(Clone, Copy)]
 pub struct Allocation {
     pub bundles: Sets,

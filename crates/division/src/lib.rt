@@ -26,7 +26,8 @@ mod dividing;
 pub const ALLOWANCE: u32 = 4000000;
 
 // A division: its grade; for each agent the worth of its bundle, the bundle as a set of items, its maximin share and its cut, that is the
-// bundle of each item; the cutter of each round in turn. All places that are not in use are 0.
+// bundle of each item; the cutter of each round in turn. All places that are not in use are 0. Arrays side by side: bundles and cutters go on
+// as they are, to a caller in C (`divide_table`), and worths and bundles come so from `assess` and the rounds.
 #[derive(Clone, Copy)]
 pub struct Division {
     pub grade: u8,

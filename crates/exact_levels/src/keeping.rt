@@ -6,7 +6,8 @@ ghost use Rattle.exact_levels.specs.internal.Keeping.{AllSets, greatest_kept, bo
 use crate::{Levels, SETS};
 use sheet::{Mark, Row};
 
-// What is added where those before can be served from what is left to them: more than any value.
+// What is added where those before can be served from what is left to them: more than any value, so that one comparison of sums tells both,
+// as the levels are worked out for 4,096 sets at once.
 pub(crate) const SERVED: u64 = 1 << 40;
 
 // For each set of items, the most that is kept of it, with `SERVED` more where those before can be served.

@@ -13,7 +13,8 @@ use sheet::amounts::{Amounts, each_at_most};
 use sheet::{Contents, Sets};
 use terms::Terms;
 
-// The worth of each agent's bundle and its margin, 0 after the last agent, and the grade.
+// The worth of each agent's bundle and its margin, 0 after the last agent, and the grade. Arrays side by side: the margins go on as one, to
+// the judgement, the worths to the division.
 #[derive(Clone, Copy)]
 pub struct Assessed {
     pub worths: Amounts,

@@ -33,7 +33,7 @@ pub struct Serving {
 const AGENT_SETS: u16 = 1 << Sheet::AGENTS;
 
 // The cutter of a round of the agents left, a set of agents in which those above the last agent of a sheet are passed over: the
-// lowest-numbered of them, 0 where none is left.
+// lowest-numbered of them, and as in the definition 0 where none is left.
 pub fn cutter_of(left: u16) -> u8
     ensures { result ≡ cutter_of (agents_in left) }
 {

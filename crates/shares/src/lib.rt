@@ -22,7 +22,8 @@ use sheet::refusal::Refusal;
 use sheet::valuing::value_of;
 use sheet::{Contents, Row, Sheet, agents_allowed, items_allowed};
 
-// Each agent's share and its cut of all items, that is the bundle of each item, 0 after the last; blank after the last agent.
+// Each agent's share and its cut of all items, that is the bundle of each item, 0 after the last; blank after the last agent. Arrays side by
+// side: the shares go on as one, to the rounds, the grading and the judging.
 #[derive(Clone, Copy)]
 pub struct Shares {
     pub shares: Amounts,
