@@ -2,7 +2,6 @@
 #![tactic(auto)]
 
 ghost use Rattle.std.specs.Prelude.{◌≡◌, length};
-ghost use Rattle.sheet.specs.Contents.{contents};
 ghost use Rattle.sheet.specs.Answers.{map_answer, after};
 ghost use Rattle.sheet.specs.Refusals.{answer_of};
 ghost use Rattle.writing.specs.Filled.{filled};
@@ -14,22 +13,21 @@ use crate::accepted::print_margins;
 use division_reading::{Stated, read_division};
 use judging::judge;
 use sheet::refusal::Refusal;
-use sheet::{Sheet, Table};
+use sheet::{Contents, Sheet};
 
 pub mod accepted;
 
 // Judges a division of a sheet and prints the margins; refused as by `judge`, else with 10 where the buffer is shorter than the text.
 fn print_judged(
-    table: Table,
-    sheet: Sheet,
+    contents: &Contents,
     stated: Option<Stated>,
     buffer: &mut [u8],
 ) -> Result<usize, Refusal>
-    ensures answer { answer_of result ≡ map_answer length (printing_judgement (contents sheet table) (stated_in sheet.agents stated) (length buffer.old)) }
-    ensures buffer { buffer.new ≡ after filled (printing_judgement (contents sheet table) (stated_in sheet.agents stated) (length buffer.old)) buffer.old }
+    ensures answer { answer_of result ≡ map_answer length (printing_judgement contents.now (stated_in contents.now.agents stated) (length buffer.old)) }
+    ensures buffer { buffer.new ≡ after filled (printing_judgement contents.now (stated_in contents.now.agents stated) (length buffer.old)) buffer.old }
 {
-    let margins = judge(table, sheet, stated)?;
-    print_margins(sheet.agents, margins, buffer)
+    let margins = judge(contents, stated)?;
+    print_margins(contents.agents, margins, buffer)
 }
 
 // Judges the division that stands behind the sheet of `text`, prints the margins into the lent buffer and answers the length printed, or answers
@@ -38,8 +36,8 @@ pub fn judge_division(text: &[u8], buffer: &mut [u8]) -> Result<usize, Refusal>
     ensures answer { answer_of result ≡ map_answer length (judgement_from text.now (length buffer.old)) }
     ensures buffer { buffer.new ≡ after filled (judgement_from text.now (length buffer.old)) buffer.old }
 {
-    let (front, behind) = reading::read_front(text)?;
-    let sheet = front.sheet;
-    let stated = read_division(text, behind, sheet);
-    print_judged(front.table, sheet, stated, buffer)
+    let (contents, behind) = reading::read_front(text)?;
+    let Contents { agents, items, .. } = contents;
+    let stated = read_division(text, behind, Sheet { agents, items });
+    print_judged(&contents, stated, buffer)
 }

@@ -4,7 +4,7 @@ use Prim.Native.Nat.{ℕ}
 use lib.ListN.{length}
 use Rattle.std.proofs.lemmas.Result.{err_from_is_err_and}
 use Rattle.sheet.specs.Answers.{refused, accepted, map_answer, after}
-use Rattle.sheet.specs.Contents.{Contents, contents}
+use Rattle.sheet.specs.Contents.{Contents}
 use Rattle.sheet.proofs.Answering.{refused-of_err}
 use Rattle.tokens.specs.Tokens.{Token}
 use Rattle.tokeniser.specs.Places.{tokens_at}
@@ -31,34 +31,31 @@ accepted-judged : (text : List ℕ) (room : ℕ) (sheet : Contents) (behind : Li
 unfolding judgement_from text_judged printing_judgement
 accepted-judged text room sheet behind read = rw read
 
-pub returns-in_err-front-clause-answer : goal.returns-in_err-front-clause-answer
-returns-in_err-front-clause-answer c =
+pub returns-in_err-contents-clause-answer : goal.returns-in_err-contents-clause-answer
+returns-in_err-contents-clause-answer c =
     let a = c.args in
     let p = err_from_is_err_and c.from_residual.result c.from_residual.ensures.1 in
-    let told = refused-judged a.text.now (length a.buffer.now) _ (refused-of_err (stored_front a.text.now) _ _ c.in_err-front.ensures) in
+    let told = refused-judged a.text.now (length a.buffer.now) _ (refused-of_err (stored_front a.text.now) _ _ c.in_err-contents.ensures) in
     rw (p.1, p.2) (sym (ap (map_answer length) told))
 
-pub returns-in_err-front-clause-buffer : goal.returns-in_err-front-clause-buffer
-returns-in_err-front-clause-buffer c =
+pub returns-in_err-contents-clause-buffer : goal.returns-in_err-contents-clause-buffer
+returns-in_err-contents-clause-buffer c =
     let a = c.args in
-    let told = refused-judged a.text.now (length a.buffer.now) _ (refused-of_err (stored_front a.text.now) _ _ c.in_err-front.ensures) in
+    let told = refused-judged a.text.now (length a.buffer.now) _ (refused-of_err (stored_front a.text.now) _ _ c.in_err-contents.ensures) in
     sym (ap (λ p. after filled p a.buffer.now) told)
 
 -- what is printed is the judgement from the text
-same : (c : After-print_judged) → let front = c.in_ok-front.front in
-    let room = length c.args.buffer.now in
-    printing_judgement (contents front.sheet front.table) (stated_in front.sheet.agents c.read_division-stated.result) room ≡ judgement_from c.args.text.now room
+same : (c : After-print_judged) → let sheet = c.in_ok-contents.contents in
+    printing_judgement sheet (stated_in sheet.agents c.read_division-stated.result) (length c.args.buffer.now) ≡ judgement_from c.args.text.now (length c.args.buffer.now)
 same c =
     let text = c.args.text.now in
     let room = length c.args.buffer.now in
-    let front = c.in_ok-front.front in
-    let counts = front.sheet in
-    let sheet = contents counts front.table in
-    let behind = tokens_at text c.in_ok-front.behind in
-    let read = front-read text front c.in_ok-front.behind c.in_ok-front.ensures in
+    let sheet = c.in_ok-contents.contents in
+    let behind = tokens_at text c.in_ok-contents.behind in
+    let read = front-read text sheet c.in_ok-contents.behind c.in_ok-contents.ensures in
     let few = reading_front-counts text sheet behind read in
-    let stated : stated_in counts.agents c.read_division-stated.result ≡ division_text counts.agents counts.items behind =
-    ap (stated_in counts.agents) c.read_division-stated.ensures ∙ stated-kept counts.agents counts.items few.few_items few.few behind in
+    let stated : stated_in sheet.agents c.read_division-stated.result ≡ division_text sheet.agents sheet.items behind =
+    ap (stated_in sheet.agents) c.read_division-stated.ensures ∙ stated-kept sheet.agents sheet.items few.few_items few.few behind in
     ap (λ d. printing_judgement sheet d room) stated ∙ sym (accepted-judged text room sheet behind read)
 
 pub returns-clause-answer : goal.returns-clause-answer
