@@ -38,7 +38,7 @@ pub struct Division {
     pub cutters: [u8; Sheet::AGENTS],
 }
 
-// The division of a table that is not refused, by the terms, from the shares and the cuts: the first cutter's own cut serves the first round.
+// The division of a sheet that is not refused, by the terms, from the shares and the cuts: the first cutter's own cut serves the first round.
 fn divide_shared(contents: &Contents, terms: Terms, allowance: u32, own: Shares) -> Division
     requires { IsShared contents.now terms allowance own }
     ensures { result ≡ stored (division_by_terms contents.now terms) }

@@ -59,16 +59,16 @@ module _ {t : ℕ} (c : After-settle_round-round t) where
   left_is = ap (λ r. r.left) settled_is
 
   -- the allocation with the round
-  given_is : (given : Allocation)
-      → given ≡ with_round c.args.cutter c.settle_round-round.result.served c.settle_round-round.result.sets c.args.allocation
+  given_is : {served : List ℕ} (given : Allocation) → served ≡ c.settle_round-round.result.served
+      → given ≡ with_round c.args.cutter served c.settle_round-round.result.sets c.args.allocation
       → given ≡ with_round this-round.cutter this-round.served (map set_of this-round.bundles) c.args.allocation
-  given_is given told =
+  given_is given listed told =
       let r = this-round in
       let a = c.args.allocation in
       let sets = map set_of r.bundles in
       let allocated : List ℕ → Allocation = λ bundles. record { bundles = bundles; cutters = set a.cutters a.rounds r.cutter; rounds = a.rounds + 1 } in
       told
-      ∙ ap₂ (λ cutter served. with_round cutter served c.settle_round-round.result.sets a) (cutter-is ∙ sym (round-cutter instance (agents_in c.args.left) (items_of c.args.set))) served-is
+      ∙ ap₂ (λ cutter served. with_round cutter served c.settle_round-round.result.sets a) (cutter-is ∙ sym (round-cutter instance (agents_in c.args.left) (items_of c.args.set))) (listed ∙ served-is)
       ∙ ap (λ q. with_round r.cutter r.served q.sets a) settled_is
       ∙ ap allocated (stored-zeros r.served sets (most_agents - length sets) a.bundles)
 
@@ -93,7 +93,7 @@ hand_out-given-requires t c =
 pub returns-then-round-eq0 : goal.returns-then-round-eq0
 returns-then-round-eq0 t c =
     let r = (goal.at.returns-then-round-eq0 t c).After-settle_round-round in
-    given_is r c.hand_out-given.result (c.hand_out-given.ensures ∙ ap (λ served. with_round c.args.cutter served c.settle_round-round.result.sets c.args.allocation) c.as_slice.ensures.same)
+    given_is r c.hand_out-given.result c.as_slice.ensures.same c.hand_out-given.ensures
     ∙ sym (allotted-last (instance r) (agents_in c.args.left) (items_of c.args.set) c.args.allocation (cuttable r).some_left (none-waiting (cuttable r) (instance r) (sym (waiting-is r) ∙ c.if-round-eq0.true)))
 
 pub cut_left-next-requires : goal.cut_left-next-requires
@@ -115,7 +115,7 @@ divide_left-requires t c =
           small_shares = ready.small_shares;
           cuttable = next-cuttable r c.if-round-eq0.false;
           enough = next-enough r c.if-round-eq0.false;
-          places = omega (arith, ready.places, next, fewer, ap (λ a. a.rounds) (given_is r c.hand_out-given.result (c.hand_out-given.ensures ∙ ap (λ served. with_round c.args.cutter served c.settle_round-round.result.sets c.args.allocation) c.as_slice.ensures.same)));
+          places = omega (arith, ready.places, next, fewer, ap (λ a. a.rounds) (given_is r c.hand_out-given.result c.as_slice.ensures.same c.hand_out-given.ensures));
         },
         c.cutter_of-next_cutter.ensures,
         c.cut_left-next.ensures,
@@ -129,5 +129,5 @@ returns t c =
     let G = instance r in
     c.divide_left.ensures
     ∙ ap (λ agents. allotted_all G agents (items_of c.settle_round-round.result.left) c.hand_out-given.result) (next-agents r)
-    ∙ ap₂ (allotted_all G this.waiting) (ap items_of (left_is r) ∙ items_of-next (cuttable r) G) (given_is r c.hand_out-given.result (c.hand_out-given.ensures ∙ ap (λ served. with_round c.args.cutter served c.settle_round-round.result.sets c.args.allocation) c.as_slice.ensures.same))
+    ∙ ap₂ (allotted_all G this.waiting) (ap items_of (left_is r) ∙ items_of-next (cuttable r) G) (given_is r c.hand_out-given.result c.as_slice.ensures.same c.hand_out-given.ensures)
     ∙ sym (allotted-next G (agents_in c.args.left) (items_of c.args.set) c.args.allocation (cuttable r).some_left)
