@@ -7,7 +7,7 @@ use crate::parts::is_part;
 use exact_levels::Levels;
 use sheet::amounts::Amounts;
 use sheet::valuing::value_of;
-use sheet::{Row, Sets, Sheet, Table};
+use sheet::{Contents, Row, Sets, Sheet};
 
 // Whether an agent may leave a part of a set to those before it: they can be served from it, and the rest is worth the agent's share.
 fn may_leave(valuation: Row, share: u64, level: u8, before: u8, part: u16, set: u16) -> bool
@@ -28,20 +28,14 @@ fn left_by(valuation: Row, share: u64, levels: &Levels, before: u8, set: u16) ->
 }
 
 // The bundles: each agent keeps what it does not leave to those before it, and the first keeps all that is left.
-pub(crate) fn hand_out(
-    table: Table,
-    shares: Amounts,
-    agents: usize,
-    levels: &Levels,
-    all: u16,
-) -> Sets
-    requires { CanHand table shares agents levels.now all }
-    ensures { HandedOut table shares agents all result }
+pub(crate) fn hand_out(contents: &Contents, shares: Amounts, levels: &Levels, all: u16) -> Sets
+    requires { CanHand contents.now.table shares contents.now.agents levels.now all }
+    ensures { HandedOut contents.now.table shares contents.now.agents all result }
 {
     let mut bundles = [0u16; Sheet::AGENTS];
     let mut left = all;
-    for i in (1..agents).rev() {
-        let part = left_by(table[i], shares[i], levels, i as u8, left);
+    for i in (1..contents.agents).rev() {
+        let part = left_by(contents.table[i], shares[i], levels, i as u8, left);
         bundles[i] = left - part;
         left = part;
     }

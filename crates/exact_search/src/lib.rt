@@ -22,11 +22,11 @@ fn search(contents: &Contents, shares: Amounts) -> Option<Sets>
     ensures { Searched contents.now (Ok result) }
 {
     let all = all_items(contents.items);
-    let levels = rank(contents.table, shares, contents.agents, contents.items);
+    let levels = rank(contents, shares);
     if (levels[all as usize] as usize) < contents.agents {
         return None;
     }
-    Some(hand_out(contents.table, shares, contents.agents, &levels, all))
+    Some(hand_out(contents, shares, &levels, all))
 }
 
 // A division of a sheet in which every agent has its whole maximin share, or `None` where there is none: for each agent its bundle as a set of
