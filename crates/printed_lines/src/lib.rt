@@ -13,6 +13,7 @@ ghost use Rattle.printed_lines.specs.BeforeZero.{before_zero};
 use crate::cuts::put_cut;
 use cut::Partition;
 use sheet::Sheet;
+use sheet::limited::Limited;
 use sheet::naming::items_of;
 use writing::Writer;
 
@@ -63,12 +64,7 @@ pub fn put_yard(
     writer.field(b"(yard ", agent as u64);
     put_pile(writer, pile);
     put_amounts(writer, worth, share);
-    put_cut(
-        writer,
-        agents.min(Sheet::AGENTS),
-        items.min(Sheet::ITEMS),
-        partition,
-    );
+    put_cut(writer, Limited::of(agents, items), partition);
     writer.bytes(b")\n");
 }
 

@@ -16,11 +16,11 @@ use Rattle.printed_lines.proofs.cuts.put_bundles.Goals.{After-bundle_of-bundle}
 module _ (c : After-bundle_of-bundle) where
   -- the items of the bundle that comes next
   abbrev next-bundle : List ℕ
-  next-bundle = bundle (range 1 c.args.items) c.args.partition (c.loop-i.i + 1)
+  next-bundle = bundle (range 1 c.args.counts.items) c.args.partition (c.loop-i.i + 1)
 
   bundle-is : c.bundle_of-bundle.result ≡ next-bundle
   bundle-is =
-      let named = ap items_of c.all_items-set.ensures ∙ items-of-all c.args.items (omega arith) in
+      let named = ap items_of c.all_items-set.ensures ∙ items-of-all c.args.counts.items c.args.counts.few_items in
       c.bundle_of-bundle.ensures ∙ ap (λ ks. bundle ks c.args.partition (c.loop-i.i + 1)) named
 
 pub loop-i-init : goal.loop-i-init
@@ -32,12 +32,12 @@ loop-i-preserved c =
     let l = c.loop-i in
     let a = c.args in
     let at-bundle = (goal.at.loop-i-preserved c).After-bundle_of-bundle in
-    rw (flat_map-next (bundle_text a.items a.partition) l.i)
+    rw (flat_map-next (bundle_text a.counts.items a.partition) l.i)
     (l.invariant then (c.byte.ensures then rw (c.as_slice.ensures.same ∙ bundle-is at-bundle) at c.group.ensures))
 
 pub returns : goal.returns
 returns c =
     let l = c.loop-i in
     let a = c.args in
-    let all : l.i ≡ a.agents = omega arith in
-    rw (flat_map-map cut_pile (bundle (range 1 a.items) a.partition) (range 1 a.agents)) (rw all at l.invariant)
+    let all : l.i ≡ a.counts.agents = omega arith in
+    rw (flat_map-map cut_pile (bundle (range 1 a.counts.items) a.partition) (range 1 a.counts.agents)) (rw all at l.invariant)

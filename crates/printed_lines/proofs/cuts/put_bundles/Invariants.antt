@@ -12,4 +12,4 @@ abbrev pub bundle_text : ℕ → List ℕ → ℕ → List ℕ
 bundle_text items partition c = cut_pile (bundle (range 1 items) partition c)
 
 abbrev pub invariant-loop-i : goal.invariant-loop-i
-invariant-loop-i l = Writes l.initial.writer (flat_map (bundle_text l.items l.partition) (range 1 l.i)) l.writer
+invariant-loop-i l = Writes l.initial.writer (flat_map (bundle_text l.fn.counts.items l.partition) (range 1 l.i)) l.writer
