@@ -7,6 +7,7 @@ ghost use Rattle.division_reading.specs.Grammar.{reading_division};
 ghost use Rattle.division_reading.specs.Outcome.{kept};
 
 use division_numbers::read_head;
+use sheet::limited::Limited;
 use sheet::{Sets, Sheet};
 use sheet_lines::end::end_of_text;
 use tokeniser::Cursor;
@@ -47,8 +48,10 @@ pub fn read_division(s: &[u8], c: Cursor, sheet: Sheet) -> Option<Stated>
     if Sheet::AGENTS < sheet.agents || Sheet::ITEMS < sheet.items {
         return None;
     }
+    let Sheet { agents, items } = sheet;
+    let counts = Limited { agents, items };
     let (grade, first) = read_head(s, c, sheet)?;
-    let (lines, last) = lines::division_lines(s, first, sheet)?;
+    let (lines, last) = lines::division_lines(s, first, counts)?;
     let _end = end_of_text(s, last)?;
     Some(Stated {
         grade: grade as u8,

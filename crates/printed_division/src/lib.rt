@@ -2,7 +2,7 @@
 #![tactic(auto)]
 
 ghost use mathlib.Core.List.{flat_map};
-ghost use Rattle.std.specs.Prelude.{◌≤◌, min};
+ghost use Rattle.std.specs.Prelude.{min};
 ghost use Rattle.lists.specs.Lists.{range};
 ghost use Rattle.sheet.specs.Limits.{most_agents, most_items};
 ghost use Rattle.writing.specs.WithText.{Writes};
@@ -10,19 +10,18 @@ ghost use Rattle.printed_division.specs.OutcomeText.{outcome_line, outcome_text}
 
 use division::Division;
 use printed_lines::{put_cutters, put_head, put_yard};
-use sheet::Sheet;
+use sheet::limited::Limited;
 use writing::Writer;
 
 // The lines of all agents.
-fn put_yards(writer: &mut Writer, agents: usize, items: usize, division: Division)
-    requires { (agents ≤ most_agents) × (items ≤ most_items) }
-    ensures { Writes writer.old (flat_map (outcome_line agents items division.bundles division.worths division.shares division.cuts) (range 1 agents)) writer.new }
+fn put_yards(writer: &mut Writer, counts: Limited, division: Division)
+    ensures { Writes writer.old (flat_map (outcome_line counts.agents counts.items division.bundles division.worths division.shares division.cuts) (range 1 counts.agents)) writer.new }
 {
-    for i in 0..agents {
+    for i in 0..counts.agents {
         put_yard(
             writer,
-            agents,
-            items,
+            counts.agents,
+            counts.items,
             i + 1,
             division.bundles[i],
             division.worths[i],
@@ -36,10 +35,9 @@ fn put_yards(writer: &mut Writer, agents: usize, items: usize, division: Divisio
 pub fn put_division(writer: &mut Writer, agents: usize, items: usize, division: Division)
     ensures { Writes writer.old (outcome_text (min agents most_agents) (min items most_items) division) writer.new }
 {
-    let yards = agents.min(Sheet::AGENTS);
-    let pieces = items.min(Sheet::ITEMS);
-    put_head(writer, yards, pieces, division.grade);
-    put_yards(writer, yards, pieces, division);
+    let counts = Limited::of(agents, items);
+    put_head(writer, counts.agents, counts.items, division.grade);
+    put_yards(writer, counts, division);
     put_cutters(writer, division.cutters);
     writer.bytes(b"(end)\n");
 }

@@ -6,5 +6,5 @@ use Rattle.printed_division.proofs.put_division.Goals as goal
 pub returns : goal.returns
 unfolding outcome_text all_lines
 returns c =
-    rw (← c.min-yards.ensures, ← c.min-pieces.ensures)
+    rw (← c.of-counts.ensures.agents, ← c.of-counts.ensures.items)
     (c.put_head.ensures then c.put_yards.ensures then c.put_cutters.ensures then c.bytes.ensures)

@@ -1,8 +1,6 @@
-use mathlib.Core.Path.{◌≡◌}
 use mathlib.Core.List.{List, flat_map}
-use Prim.Native.Nat.{ℕ, ◌+◌, min}
-use native.Mathlib.Omega.{arith}
-use Rattle.sheet.specs.Limits.{most_agents, most_items}
+use Prim.Native.Nat.{ℕ, ◌+◌}
+use Rattle.std.proofs.Math.Nat.{min-eq_left}
 use Rattle.writing.specs.WithText.{Writes}
 use Rattle.printed_division.specs.OutcomeText.{outcome_line}
 use Rattle.writing.proofs.Written.{nothing, ◌then◌}
@@ -14,16 +12,14 @@ use Rattle.printed_division.proofs.put_yards.Goals.{After-put_yard}
 module _ (c : After-put_yard) where
   -- the line of each agent
   abbrev line_of : ℕ → List ℕ
-  line_of = let a = c.args in outcome_line a.agents a.items a.division.bundles a.division.worths a.division.shares a.division.cuts
+  line_of = let a = c.args in outcome_line a.counts.agents a.counts.items a.division.bundles a.division.worths a.division.shares a.division.cuts
 
   -- the line of the next agent is written
   line-written : let l = c.loop-i in Writes l.writer (line_of (l.i + 1)) c.put_yard.new.writer
   line-written =
       let a = c.args in
-      let few : min a.agents most_agents ≡ a.agents = omega arith in
-      let few_items : min a.items most_items ≡ a.items = omega arith in
-      rw (outcome_line-next a.agents a.items a.division.bundles a.division.worths a.division.shares a.division.cuts c.loop-i.i)
-      (rw (few, few_items) at c.put_yard.ensures)
+      rw (outcome_line-next a.counts.agents a.counts.items a.division.bundles a.division.worths a.division.shares a.division.cuts c.loop-i.i)
+      (rw (min-eq_left a.counts.few, min-eq_left a.counts.few_items) at c.put_yard.ensures)
 
 pub loop-i-init : goal.loop-i-init
 unfolding flat_map

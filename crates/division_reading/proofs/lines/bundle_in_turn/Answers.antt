@@ -1,7 +1,5 @@
-use mathlib.Core.Path.{◌≡◌, ◌∙◌}
-use Prim.Native.Nat.{min}
-use native.Mathlib.Omega.{arith}
-use Rattle.sheet.specs.Limits.{most_items}
+use mathlib.Core.Path.{◌∙◌}
+use Rattle.std.proofs.Math.Nat.{min-eq_left}
 use Rattle.lexing.proofs.readers.Places.{place-none, none-found, found-then, follow_number-read}
 use Rattle.division_reading.specs.Grammar.{bundle_in_turn}
 use Rattle.bundle_reading.proofs.Places.{bundle_after-leaves}
@@ -14,7 +12,5 @@ returns-in_err-next c = c.from_residual.ensures ∙ none-found _ _ _ (rw (place-
 pub returns : goal.returns
 unfolding bundle_in_turn
 returns c =
-    let a = c.args in
     let h = follow_number-read _ _ _ _ _ c.in_ok-next.ensures in
-    let few : min a.items most_items ≡ a.items = omega arith in
-    rw h.read ((rw few at c.bundle_after.ensures) ∙ found-then _ _ h.reached (bundle_after-leaves _ _ _))
+    rw h.read ((rw (min-eq_left c.args.counts.few_items) at c.bundle_after.ensures) ∙ found-then _ _ h.reached (bundle_after-leaves _ _ _))

@@ -9,7 +9,7 @@ use Rattle.division_reading.proofs.kept.InTurn.{no-line-gathered}
 use Rattle.division_reading.proofs.lines.division_lines.Goals as goal
 
 pub loop-k-init : goal.loop-k-init
-loop-k-init c = (refl, reached-here, no-line-gathered _ _ _ _ _ c.requires.agents_le_most_agents)
+loop-k-init c = (refl, reached-here, no-line-gathered _ _ _ _ _ c.args.counts.few)
 
 pub returns-in_err-line : goal.returns-in_err-line
 returns-in_err-line c =

@@ -11,4 +11,4 @@ use Rattle.division_reading.proofs.lines.division_lines.Given as goal
 
 abbrev pub invariant-loop-k : goal.invariant-loop-k
 invariant-loop-k l = (length l.lines ≡ most_agents) × Reached l.s l.initial.here l.here
-    × (lines_from l.s l.initial.here (division_lines l.sheet.agents l.sheet.items (tokens_at l.s l.initial.here)) ≡ lines_gathered l.sheet.agents l.sheet.items l.s l.initial.here l.k l.lines (tokens_at l.s l.here))
+    × (lines_from l.s l.initial.here (division_lines l.fn.counts.agents l.fn.counts.items (tokens_at l.s l.initial.here)) ≡ lines_gathered l.fn.counts.agents l.fn.counts.items l.s l.initial.here l.k l.lines (tokens_at l.s l.here))

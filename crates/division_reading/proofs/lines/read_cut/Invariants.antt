@@ -11,4 +11,4 @@ use Rattle.division_reading.proofs.lines.read_cut.Given as goal
 
 abbrev pub invariant-loop-k : goal.invariant-loop-k
 invariant-loop-k l = (length l.sets ≡ most_agents) × Reached l.s l.initial.here l.here
-    × (cut_from l.s l.initial.here (cut_bundles l.sheet.agents l.sheet.items (tokens_at l.s l.initial.here)) ≡ cut_gathered l.sheet.agents l.sheet.items l.s l.initial.here l.k l.sets (tokens_at l.s l.here))
+    × (cut_from l.s l.initial.here (cut_bundles l.fn.counts.agents l.fn.counts.items (tokens_at l.s l.initial.here)) ≡ cut_gathered l.fn.counts.agents l.fn.counts.items l.s l.initial.here l.k l.sets (tokens_at l.s l.here))
