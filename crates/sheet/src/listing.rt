@@ -1,39 +1,92 @@
 // Short lists: of items, agents or bundles, or of the values of items.
-ghost use Rattle.std.specs.Prelude.{◌≡◌, ◌≤◌, List, [], ◌∷◌, ◌++◌, length, take};
+ghost use Rattle.std.specs.Prelude.{◌≡◌, ◌≤◌, List, [], ◌∷◌, ◌++◌, length, take, min, ⊤};
 ghost use Rattle.lists.specs.Lists.{elem};
 ghost use Rattle.sheet.specs.Limits.{set_bits};
 
 use crate::Sheet;
+use std::alloc::AllocError;
 use std::marker::Model;
 
+// An entry of a short list, with the one that stands in the places behind the last.
+pub trait Entry: Copy {
+    ghost BLANK: { Self };
+
+    const BLANK: Self;
+}
+
+impl Entry for u8 {
+    ghost BLANK = { 0 };
+
+    const BLANK: u8 = 0;
+}
+
+impl Entry for u64 {
+    ghost BLANK = { 0 };
+
+    const BLANK: u64 = 0;
+}
+
 // A list of at most as many entries as a set can name. The library's ArrayVec has no copy that cannot fail.
-#[derive(Drop)]
-pub struct ShortList<T: Copy> {
+#[derive(Copy, Drop)]
+pub struct ShortList<T: Entry> {
     places: [T; Sheet::SET_BITS],
     len: usize,
 }
 
-impl<T: Copy> Model for ShortList<T> {
+impl<T: Entry> Model for ShortList<T> {
+    ghost use Rattle.std.specs.Prelude.{◌≡◌, ◌≤◌, List, take, length};
+    ghost use Rattle.std.proofs.Common.{sym};
+    ghost use Rattle.lists.specs.Lists.{padded};
+    ghost use Rattle.lists.proofs.places.Padding.{length-padded-taken};
+    ghost use Rattle.sheet.specs.Limits.{set_bits};
+
     ghost Value = { List T };
 
     ghost view = { λ l. take l.len l.places };
 
-    ghost invariant = { λ l. l.len ≤ set_bits };
+    ghost invariant = { λ l. (l.len ≤ set_bits) × (l.places ≡ padded set_bits T.BLANK (take l.len l.places)) };
+
+    ghost inverse = { λ xs. record { places = padded set_bits T.BLANK xs; len = length xs } };
+
+    ghost inverse_ok = { λ l h i. record {
+      places = sym h.1 i;
+      len = length-padded-taken set_bits T.BLANK l.len l.places h.0 h.1 i;
+    } };
 }
 
-impl<T: Copy + Default> ShortList<T> {
+// Its bounds give a derive no copy of an entry.
+impl<T: Entry> Clone for ShortList<T> {
+    ghost is_clone = { λ l r. r ≡ l };
+
+    ghost is_infallible = { λ _. ⊤ };
+
+    fn clone(&self) -> Result<Self, AllocError> {
+        Ok(*self)
+    }
+}
+
+impl<T: Entry> ShortList<T> {
     // The list with no entry.
     pub fn new() -> Self
         ensures { result ≡ [] }
     {
         ShortList {
-            places: [T::default(); Sheet::SET_BITS],
+            places: [T::BLANK; Sheet::SET_BITS],
             len: 0,
         }
     }
-}
 
-impl<T: Copy> ShortList<T> {
+    // The first `count` of sixteen places, and all of them where the count is greater.
+    pub fn of(places: [T; Sheet::SET_BITS], count: usize) -> Self
+        ensures { result ≡ take (min count set_bits) places }
+    {
+        let mut list = ShortList::new();
+        for entry in &places[..count.min(Sheet::SET_BITS)] {
+            list.push(*entry);
+        }
+        list
+    }
+
     // The entries.
     pub fn as_slice(&self) -> &[T]
         ensures same { result.now ≡ self.now }
@@ -64,13 +117,17 @@ impl<T: Copy> ShortList<T> {
     pub fn with(&self, entry: T) -> Self
         ensures { result ≡ take set_bits (self.now ++ entry ∷ []) }
     {
-        let mut longer = ShortList {
-            places: self.places,
-            len: self.len,
-        };
+        let mut longer = *self;
         longer.push(entry);
         longer
     }
+}
+
+// Whether the number stands in one of sixteen places.
+pub fn contains(numbers: [u8; Sheet::SET_BITS], number: u8) -> bool
+    ensures { result ≡ elem number numbers }
+{
+    numbers.contains(&number)
 }
 
 impl ShortList<u8> {

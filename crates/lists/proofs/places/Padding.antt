@@ -1,11 +1,11 @@
 -- Lists in so many places: what stands in the places in use and in the others, and the next place filled. Assumes nothing.
-use mathlib.Core.Path.{◌≡◌, refl, sym, ap, ◌∙◌}
+use mathlib.Core.Path.{◌≡◌, refl, sym, ap, ap₂, ◌∙◌}
 use mathlib.Core.List.{List, [], ◌∷◌, ◌++◌, map, map-append, append_assoc, Memᴰ as Mem}
 use Prim.Native.Nat.{ℕ, zero, suc, ◌+◌, ◌-◌, ◌≤◌, ◌<◌}
 use native.Mathlib.Nat.{add_comm, zero-add, zero-sub, sub-zero, suc-sub-suc}
 use native.Mathlib.Omega.{arith}
-use lib.ListN.{length, take, drop, replicate, set as store, length-map, length-append, length-replicate, get_or-append}
-use lib.Seq.{take-append_seam, sets, sets-eq}
+use lib.ListN.{length, take, drop, replicate, set as store, length-map, length-append, length-replicate, length-take, get_or-append}
+use lib.Seq.{take-append_seam, length-take-le, sets, sets-eq}
 use Rattle.lists.specs.Lists.{range, nth, padded}
 use Rattle.lists.proofs.ranges.Ranges.{length-range, range-append, range-bounds}
 
@@ -22,6 +22,12 @@ module _ {A : Type 0} (n : ℕ) (d : A) where
   pub take-padded : (l : List A) → take (length l) (padded n d l) ≡ l
   take-padded l = take-append_seam l (replicate (n - length l) d)
 
+  -- where the places after the first k are blank, those first are k
+  pub length-padded-taken : (k : ℕ) (l : List A) → k ≤ n → l ≡ padded n d (take k l) → length (take k l) ≡ k
+  length-padded-taken k l few blank =
+      let all : length l ≡ n = ap length blank ∙ length-padded (take k l) (omega (arith, length-take k l)) in
+      length-take-le k l (omega arith)
+
   store-seam : (xs ys : List A) (y v : A) → store (xs ++ y ∷ ys) (length xs) v ≡ xs ++ v ∷ ys
   store-seam [] ys y v = refl
   store-seam (x ∷ xs) ys y v = ap (λ l. x ∷ l) (store-seam xs ys y v)
@@ -32,6 +38,19 @@ module _ {A : Type 0} (n : ℕ) (d : A) where
       let more : n - length l ≡ suc (n - length (l ++ (v ∷ []))) = omega (arith, length-append l (v ∷ [])) in
       rw (more, append_assoc l (v ∷ []) (replicate (n - length (l ++ (v ∷ []))) d))
       (store-seam l (replicate (n - length (l ++ (v ∷ []))) d) d v)
+
+  -- places after the first k that are blank stay so once place k is filled
+  pub store-padded-taken : (k : ℕ) (l : List A) (v : A) → k < n → l ≡ padded n d (take k l) → store l k v ≡ padded n d (take (k + 1) (store l k v))
+  store-padded-taken k l v room blank =
+      let few : length (take k l) ≡ k = length-padded-taken k l (omega arith) blank in
+      let next : store l k v ≡ padded n d (take k l ++ (v ∷ [])) =
+          ap (λ m. store m k v) blank
+          ∙ ap (λ i. store (padded n d (take k l)) i v) (sym few)
+          ∙ padded-next (take k l) v (omega (arith, few)) in
+      let longer : length (take k l ++ (v ∷ [])) ≡ k + 1 = length-append (take k l) (v ∷ []) ∙ ap (λ i. i + 1) few in
+      let front : take (k + 1) (store l k v) ≡ take k l ++ (v ∷ []) =
+          ap₂ take (sym longer) next ∙ take-padded (take k l ++ (v ∷ [])) in
+      next ∙ ap (padded n d) (sym front)
 
   -- all places blank, and then a list stored from the first on
   pub sets-blank : (l : List A) → length l ≤ n → sets (replicate n d) 0 l ≡ padded n d l

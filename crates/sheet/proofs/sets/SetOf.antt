@@ -1,13 +1,20 @@
 -- The set of the numbers that pass a test, from the first to the last, and that of a rising list. Assumes nothing.
 use mathlib.Core.Path.{◌≡◌, ap, ◌∙◌}
-use mathlib.Core.Bool.{Bool, true, false}
+use mathlib.Core.Bool.{Bool, true, false, or-false}
 use mathlib.Core.List.{List, [], ◌∷◌, ◌++◌, append-nil}
 use mathlib.Core.List.{Sublistᴰ as Sublist}
-use Prim.Native.Nat.{ℕ, ◌+◌, ◌^◌, ◌<◌}
+use Prim.Native.Nat.{ℕ, ◌+◌, ◌-◌, ◌^◌, ◌≤◌, ◌<◌}
 use native.Mathlib.Nat.{add-sub_cancel, add-zero}
-use Rattle.lists.specs.Lists.{range, filter}
+use native.Mathlib.Omega.{arith}
+use lib.Dec.{eqb}
+use lib.ListN.{length, replicate}
+use borrow.Author.Tests.{ne_eqb}
+use Rattle.lists.specs.Lists.{range, filter, elem, padded}
+use Rattle.lists.proofs.ranges.Ranges.{range-bounds}
+use Rattle.lists.proofs.places.Zeros.{mem-zeros}
 use Rattle.lists.proofs.places.Passing.{range-next}
-use Rattle.lists.proofs.members.Counting.{filter-append, filter-sublist}
+use Rattle.lists.proofs.members.Counting.{filter-append, filter-sublist, any_append, any_none}
+use Rattle.lists.proofs.members.Congruence.{filter-cong}
 use Rattle.lists.proofs.members.Distinct.{range-distinct, filter-elem}
 use Rattle.sheet.specs.Limits.{set_bits}
 use Rattle.sheet.specs.Sets.{set_of, set_among}
@@ -39,3 +46,17 @@ module _ (p : ℕ → Bool) (i : ℕ) where
 pub set_among-rising : {l : List ℕ} → Sublist l (range 1 set_bits) → set_among l ≡ set_of l
 unfolding set_among
 set_among-rising s = ap set_of (filter-elem s (range-distinct 1 set_bits))
+
+-- zeros behind a list are no items
+pub elem-padded : (n : ℕ) (l : List ℕ) (k : ℕ) → 1 ≤ k → elem k (padded n 0 l) ≡ elem k l
+elem-padded n l k some =
+    any_append (eqb k) l (replicate (n - length l) 0)
+    ∙ rw (any_none (eqb k) (replicate (n - length l) 0) (λ x m. ne_eqb k x (λ e. absurd (omega (arith, mem-zeros (n - length l) m))))) (or-false (elem k l))
+
+-- the set of a list of items in rising order, with zeros behind it
+pub set_among-padded : {l : List ℕ} → Sublist l (range 1 set_bits) → set_among (padded set_bits 0 l) ≡ set_of l
+unfolding set_among
+set_among-padded {l} s =
+    ap set_of
+    (filter-cong (λ k. elem k (padded set_bits 0 l)) (λ k. elem k l) (range 1 set_bits) (λ k m. elem-padded set_bits l k (range-bounds 1 set_bits m).0)
+    ∙ filter-elem s (range-distinct 1 set_bits))
