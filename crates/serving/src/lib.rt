@@ -22,7 +22,7 @@ mod waiting;
 pub type Suiting = [[bool; Sheet::AGENTS]; Sheet::AGENTS];
 
 // What one round settles: the agents served, their bundles at the same places, and the set of the agents that wait.
-#[derive(Drop)]
+#[derive(Clone, Copy)]
 pub struct Serving {
     pub served: ShortList<u8>,
     pub chosen: ShortList<u8>,

@@ -19,7 +19,7 @@ mod suiting;
 
 // What one round settles: the agents served with the sets of their bundles at the same places, the set of the agents that wait, and the
 // set of the items left.
-#[derive(Drop)]
+#[derive(Clone, Copy)]
 pub struct Settled {
     pub served: ShortList<u8>,
     pub sets: Sets,
