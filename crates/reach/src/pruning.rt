@@ -27,11 +27,13 @@ fn lacks_more(loads: &Loads, bundles: usize, goal: u64, most: u64, amount: u64) 
 {
     let mut left = amount;
     for load in &loads[..bundles] {
-        let lack = goal.saturating_sub(*load).min(most);
-        if left < lack {
-            return true;
+        if *load < goal {
+            let lack = (goal - *load).min(most);
+            if left < lack {
+                return true;
+            }
+            left -= lack;
         }
-        left -= lack;
     }
     false
 }
@@ -43,8 +45,11 @@ fn is_short(values: &[u64], loads: &Loads, bundles: usize, goal: u64) -> bool
     ensures { result ≡ is_short goal (load_of loads.now) bundles values.now }
 {
     loads[..bundles].iter().any(|load| {
-        let most = goal.saturating_sub(*load);
-        lacks_more(loads, bundles, goal, most, supplied(values, most))
+        *load < goal
+            && {
+                let most = goal - *load;
+                lacks_more(loads, bundles, goal, most, supplied(values, most))
+            }
     })
 }
 
@@ -55,11 +60,13 @@ fn needs_more(loads: &Loads, bundles: usize, goal: u64, most: u64, count: u64) -
 {
     let mut left = count;
     for load in &loads[..bundles] {
-        let due = goal.saturating_sub(*load).div_ceil(most);
-        if left < due {
-            return true;
+        if *load < goal {
+            let due = (goal - *load).div_ceil(most);
+            if left < due {
+                return true;
+            }
+            left -= due;
         }
-        left -= due;
     }
     false
 }

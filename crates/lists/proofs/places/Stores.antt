@@ -1,12 +1,13 @@
 -- Values stored in places, one after the other or as many as there are places, and lists in places under a map. Assumes nothing.
 use mathlib.Core.Path.{◌≡◌, refl, sym, ap₂, subst, ◌∙◌}
 use mathlib.Core.Logic.{⊎_elim}
-use mathlib.Core.List.{List, [], ◌∷◌, map, append-nil}
-use Prim.Native.Nat.{ℕ, zero, suc, ◌+◌, ◌≤◌, ◌<◌}
+use mathlib.Core.List.{List, [], ◌∷◌, map, map-append, append-nil}
+use Prim.Native.Nat.{ℕ, zero, suc, ◌+◌, ◌-◌, ◌≤◌, ◌<◌}
 use native.Mathlib.Nat.{zero-add, eq-or-lt_of_le}
 use native.Mathlib.Omega.{arith}
-use lib.ListN.{length, get_or, drop_of_length-le, replicate, set as store}
+use lib.ListN.{length, get_or, drop_of_length-le, replicate, set as store, length-map}
 use lib.Seq.{sets, sets-eq, get_or-set_same, get_or-set_other, set-get_or, set-set}
+use Rattle.lists.specs.Lists.{padded}
 use Rattle.lists.specs.Sums.{total}
 
 module _ {A : Type 0} (P : ℕ → A → Type 0) (d : A) where
@@ -38,3 +39,6 @@ module _ {A B : Type 0} (f : A → B) where
   map-replicate : (n : ℕ) (a : A) → map f (replicate n a) ≡ replicate n (f a)
   map-replicate zero a = refl
   map-replicate (suc n) a = ap₂ ◌∷◌ refl (map-replicate n a)
+
+  pub map-padded : (n : ℕ) (blank : A) (l : List A) → map f (padded n blank l) ≡ padded n (f blank) (map f l)
+  map-padded n blank l = map-append f l (replicate (n - length l) blank) ∙ rw (map-replicate, length-map)

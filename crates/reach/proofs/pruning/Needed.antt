@@ -3,7 +3,7 @@ use mathlib.Core.Path.{◌≡◌, refl, sym, ◌∙◌}
 use mathlib.Core.Bool.{true, true≢false}
 use mathlib.Core.Logic.{⊎_elim}
 use mathlib.Core.List.{List, [], ◌∷◌}
-use Prim.Native.Nat.{ℕ, zero, suc, ◌+◌, ◌*◌, ◌/◌, ◌%◌, ◌≤◌, ◌<◌, min}
+use Prim.Native.Nat.{ℕ, zero, suc, ◌+◌, ◌-◌, ◌*◌, ◌/◌, ◌%◌, ◌≤◌, ◌<◌, min}
 use native.Mathlib.Nat.{div-lt_iff_lt-mul, add-mul, mul-le-mul_right}
 use native.Mathlib.Omega.{arith}
 use lib.ListN.{length}
@@ -15,6 +15,16 @@ use Rattle.reach.specs.Loads.{least_loaded}
 use Rattle.reach.specs.Pruning.{greatest_value, needed, needed_by, needs_more}
 use Rattle.reach.proofs.pruning.Reached.{lacks-le-values}
 use Rattle.reach.proofs.pruning.Greatest.{greatest_value-positive}
+
+-- nothing is lacking
+pub needed-none : (most lack : ℕ) → lack ≤ 0 → needed most lack ≡ 0
+needed-none most zero none = refl
+needed-none most (suc lack) none = absurd (omega arith)
+
+-- a lack that is there
+pub needed-some : (most lack : ℕ) → 1 ≤ lack → needed most lack ≡ (lack - 1) / most + 1
+needed-some most zero some = absurd (omega arith)
+needed-some most (suc lack) some = let less : suc lack - 1 ≡ lack = omega arith in rw less refl
 
 module _ (most : ℕ) (some : 1 ≤ most) where
   -- values that cover the lack are no fewer than needed

@@ -15,4 +15,4 @@ returns-then-left-lack c =
     let i = c.loop-load.load-index in
     let w : ℕ → ℕ = λ k. min (a.goal - load_of a.loads.now k) a.most in
     sym (lt-ltb a.amount (demand a.goal (load_of a.loads.now) a.bundles a.most)
-    (omega (arith, sum_of-next w i, sum_of-prefix w (i + 1) a.bundles (omega arith), nth-next 0 a.loads.now i, get_or-take a.bundles a.loads.now i 0 (omega arith), c.saturating_sub.ensures, c.min-lack.ensures)))
+    (omega (arith, sum_of-next w i, sum_of-prefix w (i + 1) a.bundles (omega arith), nth-next 0 a.loads.now i, get_or-take a.bundles a.loads.now i 0 (omega arith), c.min-lack.ensures)))
