@@ -12,10 +12,14 @@ pub(crate) fn token_start(s: &[u8], at: usize, begun: bool) -> usize
 {
     let mut remark = false;
     for i in at..s.len() {
-        remark = in_remark(remark, s[i]);
-        if !remark && !counts_for_nothing(begun, s[i]) {
+        let byte = s[i];
+        if remark && byte != b'\n' {
+            continue;
+        }
+        if !counts_for_nothing(begun, byte) {
             return i;
         }
+        remark = in_remark(remark, byte);
     }
     s.len()
 }
