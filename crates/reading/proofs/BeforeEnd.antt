@@ -1,7 +1,7 @@
 -- A sheet at the front of a text, by what stands before the line `(end)`, by that line and by its marks. Assumes nothing.
 use mathlib.Core.Path.{◌≡◌, refl, sym, ap, ◌∙◌}
 use mathlib.Core.List.{List, IsSuffix, IsSuffix-trans as suffix_trans}
-use mathlib.Core.Bool.{Bool, true, false, cond}
+use mathlib.Core.Bool.{Bool, true, false}
 use Rattle.std.specs.Prelude.{Option, None, Some}
 use Prim.Native.Nat.{ℕ}
 use lib.Dec.{leb, ltb}
@@ -18,8 +18,9 @@ use Rattle.tokeniser.proofs.Places.{tokens-start}
 use Rattle.tokeniser.proofs.Behind.{LeavesTokens, place-leaves}
 use Rattle.sheet_lines.specs.Grammar.{head, Body, body, end_line}
 use Rattle.sheet_lines.specs.Marks.{allowed_row}
-use Rattle.sheet_lines.specs.Kept.{table_of, allowed_table}
+use Rattle.sheet_lines.specs.Kept.{table_of, kept_table}
 use Rattle.sheet_lines.proofs.Suffixes.{head-leaves, body-leaves}
+use Rattle.sheet_lines.proofs.kept.StoredTable.{allowed-kept}
 use Rattle.reading.specs.Reading.{contents_of, sheet_at_front}
 use Rattle.reading.proofs.Accepted.{accepted-injective}
 use Rattle.reading.specs.internal.BeforeEnd.{lines_before_end}
@@ -88,17 +89,8 @@ module _ (text : List ℕ) {agents items : ℕ} {lines : Body} {ts : List Token}
       unfolding contents_of
       marks-decide small f = front-at-end ∙ rw (e, f)
 
-      pub mark-too-great : None ≡ allowed_table lines.rows → sheet_at_front mark_limits may_follow text ≡ refused 8
-      mark-too-great none = go (all (allowed_row greatest_mark) lines.rows) refl none
-        where
-          go : (small : Bool) → all (allowed_row greatest_mark) lines.rows ≡ small → None ≡ cond small (Some (table_of lines.rows)) None → sheet_at_front mark_limits may_follow text ≡ refused 8
-          go true f none = absurd (cc)
-          go false f none = marks-decide false f
+      pub mark-too-great : all (allowed_row greatest_mark) lines.rows ≡ false → sheet_at_front mark_limits may_follow text ≡ refused 8
+      mark-too-great f = marks-decide false f
 
-      pub sheet-read : (table : List (List ℕ)) → Some table ≡ allowed_table lines.rows → sheet_at_front mark_limits may_follow text ≡ accepted (sheet_of agents items table, behind)
-      sheet-read table some = go (all (allowed_row greatest_mark) lines.rows) refl some
-        where
-          go : (small : Bool) → all (allowed_row greatest_mark) lines.rows ≡ small → Some table ≡ cond small (Some (table_of lines.rows)) None
-              → sheet_at_front mark_limits may_follow text ≡ accepted (sheet_of agents items table, behind)
-          go true f some = let same : table ≡ table_of lines.rows = cc in rw same (marks-decide true f)
-          go false f some = absurd (cc)
+      pub sheet-read : all (allowed_row greatest_mark) lines.rows ≡ true → sheet_at_front mark_limits may_follow text ≡ accepted (sheet_of agents items (kept_table lines.rows), behind)
+      sheet-read f = marks-decide true f ∙ ap (λ table. accepted (sheet_of agents items table, behind)) (sym (allowed-kept lines.rows f))

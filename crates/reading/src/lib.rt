@@ -10,15 +10,15 @@ ghost use Rattle.reading.specs.Stored.{stored_front};
 ghost use Rattle.reading.specs.internal.BeforeEnd.{lines_before_end, stored_lines};
 
 use sheet::refusal::Refusal;
-use sheet::{Contents, Sheet, Table, agents_allowed, items_allowed};
-use sheet_lines::body::read_body;
+use sheet::{Contents, Sheet, agents_allowed, items_allowed};
+use sheet_lines::body::{Body, read_body};
 use sheet_lines::end::{end_line, end_of_text};
 use sheet_lines::head::read_head;
 use tokeniser::Cursor;
 
-// The first reason to turn a text down before the line `(end)`, or what stands before that line: the counts, the table, where all marks
-// are allowed, and the place after the lines of the yards.
-fn before_end(text: &[u8]) -> Result<(Sheet, Option<Table>, Cursor), Refusal>
+// The first reason to turn a text down before the line `(end)`, or what stands before that line: the counts, what the lines of the yards
+// give, and the place after them.
+fn before_end(text: &[u8]) -> Result<(Sheet, Body, Cursor), Refusal>
     ensures { answer_of result ≡ map_answer (stored_lines text.now) (lines_before_end mark_limits text.now) }
 {
     if Sheet::LONGEST_TEXT < text.len() {
@@ -34,17 +34,20 @@ fn before_end(text: &[u8]) -> Result<(Sheet, Option<Table>, Cursor), Refusal>
     if !items_allowed(sheet.items) {
         return Err(Refusal::ItemsOutside);
     }
-    let (table, last) = read_body(text, first, sheet).ok_or(Refusal::YardLineMalformed)?;
-    Ok((sheet, table, last))
+    let (lines, last) = read_body(text, first, sheet).ok_or(Refusal::YardLineMalformed)?;
+    Ok((sheet, lines, last))
 }
 
 // The first reason to turn a text down, or the sheet that it holds.
 pub fn read(text: &[u8]) -> Result<Contents, Refusal>
     ensures { answer_of result ≡ reading text.now }
 {
-    let (counts, table, last) = before_end(text)?;
+    let (counts, lines, last) = before_end(text)?;
     end_of_text(text, last).ok_or(Refusal::EndMalformed)?;
-    let table = table.ok_or(Refusal::MarkTooGreat)?;
+    if !lines.allowed {
+        return Err(Refusal::MarkTooGreat);
+    }
+    let table = lines.table;
     let Sheet { agents, items } = counts;
     Ok(Contents {
         agents,
@@ -57,9 +60,12 @@ pub fn read(text: &[u8]) -> Result<Contents, Refusal>
 pub fn read_front(text: &[u8]) -> Result<(Contents, Cursor), Refusal>
     ensures { answer_of result ≡ map_answer (stored_front text.now) (reading_front text.now) }
 {
-    let (counts, table, last) = before_end(text)?;
+    let (counts, lines, last) = before_end(text)?;
     let next = end_line(text, last).ok_or(Refusal::EndMalformed)?;
-    let table = table.ok_or(Refusal::MarkTooGreat)?;
+    if !lines.allowed {
+        return Err(Refusal::MarkTooGreat);
+    }
+    let table = lines.table;
     let Sheet { agents, items } = counts;
     let contents = Contents {
         agents,

@@ -1,3 +1,2 @@
 -- What the contracts of the private functions cite. No contract of a public function cites these.
 pub mod Results
-pub mod Entries

@@ -5,24 +5,33 @@ ghost use Rattle.tokeniser.specs.Places.{tokens_at};
 ghost use Rattle.sheet_lines.specs.Grammar;
 ghost use Rattle.sheet_lines.specs.Results.{body_from};
 
-use crate::entries::with_entry;
 use crate::yards::yard_line;
 use sheet::{Sheet, Table};
 use tokeniser::Cursor;
 
-// The lines between the first line and the line `(end)` of a sheet with these counts, of no more than a sheet may have: the table, where
-// all marks are allowed, and the place after the lines.
-pub fn read_body(s: &[u8], c: Cursor, counts: Sheet) -> Option<(Option<Table>, Cursor)>
+// What the lines give: whether all marks are allowed, and the table of the marks, those that are not allowed reduced.
+#[derive(Clone, Copy)]
+pub struct Body {
+    pub allowed: bool,
+    pub table: Table,
+}
+
+// The lines between the first line and the line `(end)` of a sheet with these counts, of no more than a sheet may have: what they give,
+// and the place after them.
+pub fn read_body(s: &[u8], c: Cursor, counts: Sheet) -> Option<(Body, Cursor)>
     ensures { result ≡ body_from s.now c (Grammar.body mark_digits (min counts.agents most_agents) (min counts.items most_items) (tokens_at s.now c)) }
 {
     let agents = counts.agents.min(Sheet::AGENTS);
     let items = counts.items.min(Sheet::ITEMS);
-    let mut table = Some(Sheet::blank());
+    let mut table = Sheet::blank();
+    let mut allowed = true;
     let mut here = c;
     for k in 0..agents {
-        let (row, next) = yard_line(s, here, k + 1, items)?;
-        table = with_entry(table, k, row);
+        let (line, next) = yard_line(s, here, k + 1, items)?;
+        let row = line.row;
+        table[k] = row;
+        allowed &= line.allowed;
         here = next;
     }
-    Some((table, here))
+    Some((Body { allowed, table }, here))
 }

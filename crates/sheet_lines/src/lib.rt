@@ -4,7 +4,6 @@
 
 pub mod body;
 pub mod end;
-mod entries;
 pub mod forms;
 pub mod head;
 pub mod yards;

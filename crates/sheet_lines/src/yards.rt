@@ -6,25 +6,36 @@ ghost use Rattle.lexing.specs.Results.{place_after};
 ghost use Rattle.sheet_lines.specs.Grammar.{marks, yard_turn, yard_line};
 ghost use Rattle.sheet_lines.specs.internal.Results.{marks_from};
 
-use crate::entries::with_entry;
 use crate::forms::{BEFORE_MARKS, BEFORE_TURN, LINE_END};
 use lexing::forms::{follow, follow_number, read_number};
 use sheet::{Mark, Row, Sheet};
 use tokeniser::Cursor;
 
-// As many marks as there are pieces: the row, where all of them are allowed, which is where they fit their type, and the place after them.
-fn read_marks(s: &[u8], c: Cursor, items: usize) -> Option<(Option<Row>, Cursor)>
+// How many marks there are that are allowed.
+const MARK_VALUES: u64 = Sheet::GREATEST_MARK + 1;
+
+// What the marks of one line give: whether all of them are allowed, and the row of them, those that are not allowed reduced.
+#[derive(Clone, Copy)]
+pub struct Line {
+    pub allowed: bool,
+    pub row: Row,
+}
+
+// As many marks as there are pieces, and the place after them.
+fn read_marks(s: &[u8], c: Cursor, items: usize) -> Option<(Line, Cursor)>
     requires { items ≤ most_items }
     ensures { result ≡ marks_from s.now c (marks mark_digits items (tokens_at s.now c)) }
 {
-    let mut row = Some([0; Sheet::ITEMS]);
+    let mut row: Row = [0; Sheet::ITEMS];
+    let mut allowed = true;
     let mut here = c;
     for k in 0..items {
         let (mark, next) = read_number(s, here, Sheet::MARK_DIGITS)?;
-        row = with_entry(row, k, Mark::try_from(mark).ok());
+        row[k] = (mark % MARK_VALUES) as Mark;
+        allowed &= mark <= Sheet::GREATEST_MARK;
         here = next;
     }
-    Some((row, here))
+    Some((Line { allowed, row }, here))
 }
 
 // The place after `(yard`, the number `turn` and `(marks`.
@@ -36,17 +47,12 @@ fn yard_in_turn(s: &[u8], c: Cursor, turn: usize) -> Option<Cursor>
 }
 
 // (yard 1 (marks 5 3 4))
-pub(crate) fn yard_line(
-    s: &[u8],
-    c: Cursor,
-    turn: usize,
-    items: usize,
-) -> Option<(Option<Row>, Cursor)>
+pub(crate) fn yard_line(s: &[u8], c: Cursor, turn: usize, items: usize) -> Option<(Line, Cursor)>
     requires { items ≤ most_items }
     ensures { result ≡ marks_from s.now c (yard_line mark_digits items turn (tokens_at s.now c)) }
 {
     let c1 = yard_in_turn(s, c, turn)?;
-    let (row, c2) = read_marks(s, c1, items)?;
+    let (line, c2) = read_marks(s, c1, items)?;
     let c3 = follow(s, c2, &LINE_END)?;
-    Some((row, c3))
+    Some((line, c3))
 }

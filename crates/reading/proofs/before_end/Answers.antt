@@ -18,6 +18,7 @@ use Rattle.tokeniser.proofs.Behind.{reached_then, reached-place}
 use Rattle.lexing.proofs.readers.Places.{ReadTo, found-none, found-to}
 use Rattle.sheet_lines.specs.Grammar.{head, body}
 use Rattle.sheet_lines.specs.Results.{body_from}
+use Rattle.sheet_lines.specs.declared.body.Body.{Body}
 use Rattle.sheet_lines.proofs.Suffixes.{body-leaves}
 use Rattle.sheet_lines.proofs.Places.{head-missed, head-read}
 use Rattle.reading.specs.internal.BeforeEnd.{lines_before_end}
@@ -78,7 +79,7 @@ returns-then-not-items_allowed c =
 lesser-first : (a b : ℕ) → a ≤ b → min a b ≡ a
 lesser-first a b few = omega arith
 
-body-told : (text : List ℕ) (place : Cursor) (agents items : ℕ) {r : Option (Option (List (List ℕ)) × Cursor)} → (agents_allowed agents ≡ true) × (items_allowed items ≡ true)
+body-told : (text : List ℕ) (place : Cursor) (agents items : ℕ) {r : Option (Body × Cursor)} → (agents_allowed agents ≡ true) × (items_allowed items ≡ true)
     → r ≡ body_from text place (body mark_digits (min agents most_agents) (min items most_items) (tokens_at text place))
     → r ≡ body_from text place (body mark_digits agents items (tokens_at text place))
 body-told text place agents items allowed told =
@@ -86,15 +87,15 @@ body-told text place agents items allowed told =
     let few_items = lesser-first items most_items (within-bounds _ _ allowed.1).1 in
     rw (few, few_items) at told
 
-pub returns-in_err-table : goal.returns-in_err-table
+pub returns-in_err-lines : goal.returns-in_err-lines
 unfolding lines_before_end
-returns-in_err-table c =
-    let at = goal.at.returns-in_err-table c in
+returns-in_err-lines c =
+    let at = goal.at.returns-in_err-lines c in
     let some = nonempty at.Else-is_empty in
     let counts = counts-told at.Else-not-items_allowed in
-    let missed = found-none _ _ _ _ (sym c.in_err-table.ensures.ok_part ∙ body-told _ _ _ _ counts c.read_body.ensures) in
+    let missed = found-none _ _ _ _ (sym c.in_err-lines.ensures.ok_part ∙ body-told _ _ _ _ counts c.read_body.ensures) in
     rw (some.0, some.1, (head-told at.In_ok-sheet).read, counts.0, counts.1, missed)
-    (exit-missing c.from_residual-in_err-table.result _ c.from_residual-in_err-table.ensures.1 _ _ c.in_err-table.ensures.value c.in_err-table.ensures.ok_part)
+    (exit-missing c.from_residual-in_err-lines.result _ c.from_residual-in_err-lines.ensures.1 _ _ c.in_err-lines.ensures.value c.in_err-lines.ensures.ok_part)
 
 pub returns : goal.returns
 unfolding lines_before_end
@@ -103,6 +104,6 @@ returns c =
     let some = nonempty at.Else-is_empty in
     let first = head-told at.In_ok-sheet in
     let counts = counts-told at.Else-not-items_allowed in
-    let lines = found-to _ _ _ _ (body-leaves _ _ _ _) (sym c.in_ok-table.ensures.ok_part ∙ body-told _ _ _ _ counts c.read_body.ensures) in
-    rw (some.0, some.1, first.read, counts.0, counts.1, lines.to.read)
-    (ap₂ (λ table last. accepted (c.in_ok-sheet.sheet, table, last)) lines.is_kept (reached-place (reached_then first.reached lines.to.reached)))
+    let found = found-to _ _ _ _ (body-leaves _ _ _ _) (sym c.in_ok-lines.ensures.ok_part ∙ body-told _ _ _ _ counts c.read_body.ensures) in
+    rw (some.0, some.1, first.read, counts.0, counts.1, found.to.read)
+    (ap₂ (λ lines last. accepted (c.in_ok-sheet.sheet, lines, last)) found.is_kept (reached-place (reached_then first.reached found.to.reached)))

@@ -1,4 +1,5 @@
 use mathlib.Core.Path.{sym, ap, ◌∙◌}
+use borrow.Author.Tests.{not-true, not-false}
 use Rattle.lexing.specs.Forms.{ended}
 use Rattle.reading.specs.Reading.{sheet_alone, reading}
 use Rattle.reading.proofs.Exits.{exit-refused, exit-missing}
@@ -19,16 +20,14 @@ returns-in_err-ok_or c =
     exit-missing c.from_residual-in_err-ok_or.result _ c.from_residual-in_err-ok_or.ensures.1 _ _ c.in_err-ok_or.ensures.value c.in_err-ok_or.ensures.ok_part
     ∙ sym (ap sheet_alone missed)
 
-pub returns-in_err-table : goal.returns-in_err-table
+pub returns-then-not-lines : goal.returns-then-not-lines
 unfolding reading
-returns-in_err-table c =
+returns-then-not-lines c =
     let before = before-told _ _ _ _ c.in_ok-counts.ensures in
-    let great = refused-mark _ _ _ _ ended before _ (sym c.in_ok-ok_or.ensures.ok_part ∙ c.end_of_text.ensures) c.in_err-table.ensures.ok_part in
-    exit-missing c.from_residual-in_err-table.result _ c.from_residual-in_err-table.ensures.1 _ _ c.in_err-table.ensures.value c.in_err-table.ensures.ok_part
-    ∙ sym (ap sheet_alone great)
+    sym (ap sheet_alone (refused-mark _ _ _ _ ended before _ (sym c.in_ok-ok_or.ensures.ok_part ∙ c.end_of_text.ensures) (not-true c.in_ok-counts.lines.allowed c.if-not-lines.true)))
 
 pub returns : goal.returns
 unfolding reading
 returns c =
     let before = before-told _ _ _ _ c.in_ok-counts.ensures in
-    sym (ap sheet_alone (accepted-table _ _ _ _ ended before _ (sym c.in_ok-ok_or.ensures.ok_part ∙ c.end_of_text.ensures) _ c.in_ok-table.ensures.ok_part))
+    sym (ap sheet_alone (accepted-table _ _ _ _ ended before _ (sym c.in_ok-ok_or.ensures.ok_part ∙ c.end_of_text.ensures) (not-false c.in_ok-counts.lines.allowed c.if-not-lines.false)))

@@ -1,4 +1,5 @@
 use mathlib.Core.Path.{sym, ap, ◌∙◌}
+use borrow.Author.Tests.{not-true, not-false}
 use Rattle.sheet.specs.Answers.{accepted, map_answer}
 use Rattle.sheet_lines.specs.Grammar.{anything}
 use Rattle.reading.specs.Reading.{reading_front}
@@ -22,19 +23,18 @@ returns-in_err-next c =
     exit-missing c.from_residual-in_err-next.result _ c.from_residual-in_err-next.ensures.1 _ _ c.in_err-next.ensures.value c.in_err-next.ensures.ok_part
     ∙ sym (ap (map_answer (stored_front c.args.text.now)) missed)
 
-pub returns-in_err-table : goal.returns-in_err-table
+pub returns-then-not-lines : goal.returns-then-not-lines
 unfolding reading_front
-returns-in_err-table c =
+returns-then-not-lines c =
     let before = before-told _ _ _ _ c.in_ok-counts.ensures in
-    let great = refused-mark _ _ _ _ anything before _ (sym c.in_ok-next.ensures.ok_part ∙ c.end_line.ensures) c.in_err-table.ensures.ok_part in
-    exit-missing c.from_residual-in_err-table.result _ c.from_residual-in_err-table.ensures.1 _ _ c.in_err-table.ensures.value c.in_err-table.ensures.ok_part
-    ∙ sym (ap (map_answer (stored_front c.args.text.now)) great)
+    let great = refused-mark _ _ _ _ anything before _ (sym c.in_ok-next.ensures.ok_part ∙ c.end_line.ensures) (not-true c.in_ok-counts.lines.allowed c.if-not-lines.true) in
+    sym (ap (map_answer (stored_front c.args.text.now)) great)
 
 pub returns : goal.returns
 unfolding reading_front
 returns c =
     let before = before-told _ _ _ _ c.in_ok-counts.ensures in
     let ends = sym c.in_ok-next.ensures.ok_part ∙ c.end_line.ensures in
-    let sheet = sheet_of c.in_ok-counts.counts.agents c.in_ok-counts.counts.items c.in_ok-table.table in
+    let sheet = sheet_of c.in_ok-counts.counts.agents c.in_ok-counts.counts.items c.in_ok-counts.lines.table in
     ap (λ place. accepted (sheet, place)) (end-place _ _ _ _ anything before _ ends)
-    ∙ sym (ap (map_answer (stored_front c.args.text.now)) (accepted-table _ _ _ _ anything before _ ends _ c.in_ok-table.ensures.ok_part))
+    ∙ sym (ap (map_answer (stored_front c.args.text.now)) (accepted-table _ _ _ _ anything before _ ends (not-false c.in_ok-counts.lines.allowed c.if-not-lines.false)))

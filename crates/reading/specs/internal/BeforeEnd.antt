@@ -1,5 +1,5 @@
 -- What stands before the line `(end)` of a sheet, with the reasons that are looked for before it. Assumes nothing: these are definitions.
-use Rattle.std.specs.Prelude.{List, ℕ, Option, length, leb, ltb}
+use Rattle.std.specs.Prelude.{List, ℕ, length, leb, ltb}
 use Rattle.sheet.specs.Limits.{MarkLimits, agents_allowed, items_allowed, longest_text}
 use Rattle.sheet.specs.Answers.{Answer, accepted, require, require_some}
 use Rattle.sheet.specs.declared.Sheet.{Sheet}
@@ -8,7 +8,8 @@ use Rattle.tokeniser.specs.Places.{start}
 use Rattle.tokeniser.specs.Behind.{place_left}
 use Rattle.tokeniser.specs.declared.Cursor.{Cursor}
 use Rattle.sheet_lines.specs.Grammar.{head, Body, body}
-use Rattle.sheet_lines.specs.Kept.{allowed_table}
+use Rattle.sheet_lines.specs.Results.{read_body}
+use Rattle.sheet_lines.specs.declared.body.Body as code
 
 -- the reasons 1 to 6 of `sheet_at_front`; else the counts, the lines of the yards, and the tokens behind these
 unfoldable pub lines_before_end : MarkLimits → List ℕ → Answer (ℕ × ℕ × Body × List Token)
@@ -21,6 +22,6 @@ lines_before_end limits text =
     (require_some 6 (body limits.digits agents items ts₁) (λ (lines, ts₂).
     accepted (agents, items, lines, ts₂)))))))
 
--- the counts, the table, where all marks are allowed, and the place behind the lines
-abbrev pub stored_lines : List ℕ → ℕ × ℕ × Body × List Token → Sheet × Option (List (List ℕ)) × Cursor
-stored_lines s (agents, items, lines, ts) = (record { agents = agents; items = items }, allowed_table lines.rows, place_left s start ts)
+-- the counts, what the lines give, and the place behind them
+abbrev pub stored_lines : List ℕ → ℕ × ℕ × Body × List Token → Sheet × code.Body × Cursor
+stored_lines s (agents, items, lines, ts) = (record { agents = agents; items = items }, read_body lines, place_left s start ts)
