@@ -9,7 +9,7 @@ use native.Mathlib.Nat.{zero-add, add-zero, add_assoc, pow-suc, pow-le-pow_right
 use native.Mathlib.Omega.{arith}
 use lib.Dec.{leb, ltb}
 use borrow.Author.Tests.{lt-ltb, le-ltb, le-leb, lt-leb}
-use Rattle.sheet.specs.Limits.{count_digits}
+use Rattle.sheet.specs.Limits.{count_digits, most_items}
 use Rattle.sheet.specs.Sets.{set_of}
 use Rattle.tokens.specs.Tokens.{Token}
 use Rattle.tokeniser.specs.Behind.{place_left}
@@ -79,3 +79,7 @@ higher-item set above k small higher =
     let power : 2 ^ above ≤ 2 ^ (k - 1) = pow-le-pow_right {n = 2} (omega arith) lower in
     let last : suc (k - 1) ≡ k = omega arith in
     omega (arith, pow-suc 2 (k - 1), ap (λ n. 2 ^ n) last)
+
+-- sets of the items of a sheet are small
+pub item-power : (k : ℕ) → k ≤ most_items → 2 ^ k ≤ 4096
+item-power k few = pow-le-pow_right {n = 2} (omega arith) few

@@ -1,7 +1,7 @@
 -- Digits one after another, and the bounds that they keep. Assumes nothing.
 use mathlib.Core.Path.{◌≡◌, sym, ◌∙◌}
 use mathlib.Core.List.{List, [], ◌∷◌}
-use mathlib.Core.Bool.{true, ◌&&◌, and-eq-true_iff}
+use mathlib.Core.Bool.{true, false, ◌&&◌, and-eq-true_iff}
 use Prim.Native.Nat.{ℕ, suc, ◌+◌, ◌-◌, ◌*◌, ◌^◌, ◌≤◌, ◌<◌}
 use native.Mathlib.Nat.{add-zero, pow-suc, pow-le-pow_right}
 use native.Mathlib.Numerals.{add-one}
@@ -9,12 +9,18 @@ use native.Mathlib.Omega.{arith}
 use lib.ListN.{length, get_or, drop}
 use lib.Seq.{drop-cons}
 use lib.Dec.{leb, ltb, lit≤}
-use borrow.Author.Tests.{leb-true, le-leb}
+use borrow.Author.Tests.{leb-true, le-leb, lt-ltb}
 use Rattle.numerals.specs.Numerals.{is_digit, all_digits, no_leading_zero, is_number, digits_after}
 
 module _ (w : List ℕ) (i : ℕ) (h : i < length w) where
   all_digits-drop : all_digits (drop i w) ≡ is_digit (get_or w i 0) && all_digits (drop (i + 1) w)
   all_digits-drop = rw (drop-cons w i 0, add-one)
+
+  pub digit-passed : all_digits w ≡ all_digits (drop i w) → is_digit (get_or w i 0) ≡ true → all_digits w ≡ all_digits (drop (i + 1) w)
+  digit-passed e d = e ∙ all_digits-drop ∙ rw d
+
+  pub no_digit : all_digits w ≡ all_digits (drop i w) → is_digit (get_or w i 0) ≡ false → false ≡ all_digits w
+  no_digit e d = sym (e ∙ all_digits-drop ∙ rw d)
 
   pub digits_after-drop : (n : ℕ) → digits_after n (drop i w) ≡ digits_after (n * 10 + (get_or w i 0 - 48)) (drop (i + 1) w)
   unfolding digits_after
@@ -43,6 +49,9 @@ digits_after-below n i (b ∷ bs) h e =
     let digit = leb-true b 57 ((and-eq-true_iff (leb 48 b) (leb b 57)).0 both.0).1 in
     let places : i + 1 + length bs ≡ i + suc (length bs) = omega arith in
     rw (← places) (digits_after-below (n * 10 + (b - 48)) (i + 1) bs (below-ten-times n i b h digit) both.1)
+
+pub nonempty : (w : List ℕ) → (length w ≡ 0 → ⊥) → ltb 0 (length w) ≡ true
+nonempty w n = lt-ltb 0 (length w) (omega arith)
 
 -- what makes bytes a number
 pub number-parts : (most : ℕ) (w : List ℕ) → is_number most w ≡ true → (length w ≤ most) × (all_digits w ≡ true)

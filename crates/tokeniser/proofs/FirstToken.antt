@@ -3,12 +3,14 @@ use mathlib.Core.Path.{◌≡◌, refl}
 use mathlib.Core.Logic.{⊎_elim}
 use mathlib.Core.List.{List, ◌∷◌}
 use mathlib.Core.Bool.{Bool, true, false, not, cond, ◌&&◌}
-use Prim.Native.Nat.{ℕ, zero, suc, ◌≤◌, ◌<◌}
+use Prim.Native.Nat.{ℕ, zero, suc, ◌+◌, ◌≤◌, ◌<◌}
+use native.Mathlib.Nat.{add-zero}
 use native.Mathlib.Omega.{arith}
-use lib.ListN.{length, get_or, take, drop, get_or-eq_default}
+use lib.ListN.{length, get_or, take, drop, drop_of_length-le, get_or-eq_default}
 use lib.Dec.{eqb}
 use Rattle.std.proofs.lemmas.List.Sums.{prefix_len-le-length, prefix_len_passes, prefix_len_stops}
 use Rattle.lists.proofs.Cases.{lt-or-ge}
+use Rattle.lists.proofs.places.Passing.{drop-next}
 use Rattle.tokens.specs.Lines.{line_feed, space, semicolon}
 use Rattle.tokens.specs.Tokens.{is_bracket, is_word_byte}
 use Rattle.tokens.specs.TokensAfter.{tokens_after, is_delimiter, counts_for_nothing}
@@ -41,3 +43,14 @@ first-token begun b bs n = go (is_delimiter b) refl
     go false d =
         let word = no-delimiter (eqb b space) (is_bracket b) (eqb b line_feed) (eqb b semicolon) (not begun && eqb b line_feed) n d in
         rw word.1 (word-token begun (b ∷ bs) (word_bytes bs) (each word.0) (word_bytes-stop bs))
+
+-- a run of word bytes goes on from a place, ends there, or ends with the text
+module _ (s : List ℕ) (i : ℕ) where
+  pub word-goes-on : i < length s → is_word_byte (get_or s i 0) ≡ true → i + word_bytes (drop i s) ≡ i + 1 + word_bytes (drop (i + 1) s)
+  word-goes-on h w = rw (drop-next s i h, w) (omega arith)
+
+  pub word-stops : i < length s → is_word_byte (get_or s i 0) ≡ false → i + word_bytes (drop i s) ≡ i
+  word-stops h w = rw (drop-next s i h, w, add-zero i)
+
+  pub word-ends : length s ≤ i → i + word_bytes (drop i s) ≡ i
+  word-ends h = rw (drop_of_length-le s h, add-zero i)

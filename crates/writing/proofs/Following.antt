@@ -1,8 +1,8 @@
 -- What follows an answer of the code: where the code refuses, the refusal is the whole answer; where it gives a result, what follows from
 -- that is. Assumes nothing.
-use mathlib.Core.Path.{◌≡◌, refl, ap}
+use mathlib.Core.Path.{◌≡◌, ap}
 use Rattle.std.specs.Prelude.{Ok, Err}
-use Rattle.sheet.specs.Answers.{Answer, refused, accepted, map_answer, and_then}
+use Rattle.sheet.specs.Answers.{Answer, refused, map_answer, and_then}
 use Rattle.sheet.specs.Refusals.{number, answer_of}
 use Rattle.sheet.specs.declared.refusal.Refusal.{Refusal}
 use Rattle.sheet.proofs.Answering.{refused-of_err, accepted-of_ok}

@@ -44,6 +44,11 @@ module _ (valuation levels : List ℕ) (before items sets : ℕ) where
       next_power : 2 * 2 ^ i ≡ 2 ^ (i + 1)
       next_power = sym (ap (λ k. 2 ^ k) (add-one i) ∙ pow-succ' 2 i)
 
+      pub small-bit : 2 * 2 ^ i ≤ 2 ^ most_items
+      small-bit =
+          let upto : i + 1 ≤ most_items = omega (arith, all.few) in
+          omega (arith, next_power, pow-le-pow_right {n = 2} (omega arith) upto)
+
       pub can-keep-item : CanKeepItem kept (2 ^ i) sets
       can-keep-item =
           let rest : items ≡ (items - (i + 1)) + (i + 1) = omega arith in

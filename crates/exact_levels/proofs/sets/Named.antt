@@ -17,12 +17,26 @@ use Rattle.lists.proofs.members.Counting.{mem-all, all-mem, filter-mem, filter-s
 use Rattle.sheet.specs.Limits.{most_items, set_bits}
 use Rattle.sheet.specs.Sets.{names, items_of}
 use Rattle.sheet.proofs.sets.Items.{set_of-items}
+use Rattle.sheet.proofs.sets.Bits.{names-bit}
 use Rattle.exact_levels.specs.Parts.{IsPart, is_part}
 use Rattle.exact_levels.proofs.sets.Parts.{some-part}
 
 -- what is asked of item k
 abbrev pub named_in : ℕ → ℕ → ℕ → Bool
 named_in part set k = not (names part k) || names set k
+
+module _ (part set i : ℕ) where
+  -- item i + 1 is in the set, or not in the part
+  pub named-next : part / 2 ^ i % 2 ≤ set / 2 ^ i % 2 → named_in part set (i + 1) ≡ true
+  named-next le =
+      ⊎_elim
+      (λ (e : part / 2 ^ i % 2 ≡ 1). rw (names-bit part i, names-bit set i, eq-eqb (part / 2 ^ i % 2) 1 e) (eq-eqb (set / 2 ^ i % 2) 1 (omega arith)))
+      (λ ne. rw (names-bit part i, ne_eqb (part / 2 ^ i % 2) 1 ne))
+      (eq-or-ne (part / 2 ^ i % 2) 1)
+
+  -- item i + 1 is in the part, and not in the set
+  pub named-fails : set / 2 ^ i % 2 < part / 2 ^ i % 2 → named_in part set (i + 1) ≡ false
+  named-fails lt = rw (names-bit part i, names-bit set i, eq-eqb (part / 2 ^ i % 2) 1 (omega arith), ne_eqb (set / 2 ^ i % 2) 1 (λ e. omega arith))
 
 module _ (part set k : ℕ) where
   -- item k is in the set, or not in the part
