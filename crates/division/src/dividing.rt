@@ -66,18 +66,18 @@ fn hand_out(allocation: Allocation, cutter: u8, served: &[u8], sets: Sets) -> Al
 
 // What stays the same from round to round: the sheet with the shares of its agents and the terms, and the allowance of each cut.
 #[derive(Clone, Copy)]
-pub(crate) struct Instance<'a> {
-    pub(crate) contents: &'a Contents,
+pub(crate) struct Instance {
+    pub(crate) contents: Contents,
     pub(crate) shares: Amounts,
     pub(crate) terms: Terms,
     pub(crate) allowance: u32,
 }
 
-impl Instance<'_> {
+impl Instance {
     // The cutter's partition of the items left into as many bundles as there are agents left, with an allowance that does not stop the cut.
     fn cut_left(&self, cutter: u8, left: u16, set: u16) -> Partition
         requires { Mem cutter (agents_in left) × Cuttable left set × EnoughFor self.now.allowance left set }
-        ensures { result ≡ placed (cut_left self.now.contents.now.table cutter (agents_in left) (items_of set)) }
+        ensures { result ≡ placed (cut_left self.now.contents.table cutter (agents_in left) (items_of set)) }
     {
         let row = self.contents.table[cutter as usize - 1];
         let agents = items_of(left);
@@ -97,8 +97,8 @@ impl Instance<'_> {
         partition: Partition,
         allocation: Allocation,
     ) -> Allocation
-        requires { Ready self.now.terms self.now.shares self.now.allowance left set allocation × (cutter ≡ cutter_of (agents_in left)) × (partition ≡ placed (cut_left self.now.contents.now.table cutter (agents_in left) (items_of set))) }
-        ensures { result ≡ allotted_all (instance_from self.now.terms self.now.contents.now.table self.now.shares) (agents_in left) (items_of set) allocation }
+        requires { Ready self.now.terms self.now.shares self.now.allowance left set allocation × (cutter ≡ cutter_of (agents_in left)) × (partition ≡ placed (cut_left self.now.contents.table cutter (agents_in left) (items_of set))) }
+        ensures { result ≡ allotted_all (instance_from self.now.terms self.now.contents.table self.now.shares) (agents_in left) (items_of set) allocation }
     {
         let round = settle_round(
             self.contents.table,

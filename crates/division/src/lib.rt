@@ -39,9 +39,9 @@ pub struct Division {
 }
 
 // The division of a sheet that is not refused, by the terms, from the shares and the cuts: the first cutter's own cut serves the first round.
-fn divide_shared(contents: &Contents, terms: Terms, allowance: u32, own: Shares) -> Division
-    requires { IsShared contents.now terms allowance own }
-    ensures { result ≡ stored (division_by_terms contents.now terms) }
+fn divide_shared(contents: Contents, terms: Terms, allowance: u32, own: Shares) -> Division
+    requires { IsShared contents terms allowance own }
+    ensures { result ≡ stored (division_by_terms contents terms) }
 {
     let Shares { shares, cuts } = own;
     let instance = Instance {
@@ -77,9 +77,9 @@ fn divide_shared(contents: &Contents, terms: Terms, allowance: u32, own: Shares)
 // The division of a sheet. Refused as its shares are: with 4 where the agents lie outside the limits, else
 // with 5 where the items do, else with 9 where a share times the agents exceeds the sum of its marks, else with 14 where the growth
 // partitions of all items into as many bundles as agents outnumber the allowance.
-pub fn divide(contents: &Contents, allowance: u32) -> Result<Division, Refusal>
-    ensures answered { answer_of result ≡ map_answer stored (answer contents.now allowance) }
-    ensures promised { Promised contents.now allowance result }
+pub fn divide(contents: Contents, allowance: u32) -> Result<Division, Refusal>
+    ensures answered { answer_of result ≡ map_answer stored (answer contents allowance) }
+    ensures promised { Promised contents allowance result }
 {
     let own = share_each_within(contents, allowance)?;
     Ok(divide_shared(contents, terms_for(contents.agents), allowance, own))

@@ -42,8 +42,8 @@ fn raise(valuation: Row, share: u64, levels: &mut Levels, before: u8, items: usi
 }
 
 // How many of the first agents can be served from each set of the items; both counts are cut to the limits of a sheet.
-pub fn rank(contents: &Contents, shares: Amounts) -> Levels
-    ensures { result ≡ levels_of contents.now.table shares (min contents.now.agents most_agents) (min contents.now.items most_items) }
+pub fn rank(contents: Contents, shares: Amounts) -> Levels
+    ensures { result ≡ levels_of contents.table shares (min contents.agents most_agents) (min contents.items most_items) }
 {
     let last = contents.agents.min(Sheet::AGENTS);
     let counted = contents.items.min(Sheet::ITEMS);

@@ -28,9 +28,9 @@ fn left_by(valuation: Row, share: u64, levels: &Levels, before: u8, set: u16) ->
 }
 
 // The bundles: each agent keeps what it does not leave to those before it, and the first keeps all that is left.
-pub(crate) fn hand_out(contents: &Contents, shares: Amounts, levels: &Levels, all: u16) -> Sets
-    requires { CanHand contents.now.table shares contents.now.agents levels.now all }
-    ensures { HandedOut contents.now.table shares contents.now.agents all result }
+pub(crate) fn hand_out(contents: Contents, shares: Amounts, levels: &Levels, all: u16) -> Sets
+    requires { CanHand contents.table shares contents.agents levels.now all }
+    ensures { HandedOut contents.table shares contents.agents all result }
 {
     let mut bundles = [0u16; Sheet::AGENTS];
     let mut left = all;

@@ -17,9 +17,9 @@ mod handing;
 mod parts;
 
 // The search in a sheet that is not refused, with the shares of its agents: for each agent its bundle as a set of items, 0 after the last.
-fn search(contents: &Contents, shares: Amounts) -> Option<Sets>
-    requires { SharesIn contents.now shares }
-    ensures { Searched contents.now (Ok result) }
+fn search(contents: Contents, shares: Amounts) -> Option<Sets>
+    requires { SharesIn contents shares }
+    ensures { Searched contents (Ok result) }
 {
     let all = all_items(contents.items);
     let levels = rank(contents, shares);
@@ -31,8 +31,8 @@ fn search(contents: &Contents, shares: Amounts) -> Option<Sets>
 
 // A division of a sheet in which every agent has its whole maximin share, or `None` where there is none: for each agent its bundle as a set of
 // items, 0 after the last. Refused as dividing the sheet is.
-pub fn find_exact(contents: &Contents) -> Result<Option<Sets>, Refusal>
-    ensures { Searched contents.now result }
+pub fn find_exact(contents: Contents) -> Result<Option<Sets>, Refusal>
+    ensures { Searched contents result }
 {
     let own = share_each(contents)?;
     Ok(search(contents, own.shares))

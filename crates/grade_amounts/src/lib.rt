@@ -47,8 +47,8 @@ fn greatest_in_use(valuation: Row, agents: usize, items: usize, bundles: Sets) -
 }
 
 // What the grade goes by, for each agent; both counts are cut to the limits of a sheet.
-pub fn compare(contents: &Contents, bundles: Sets) -> Compared
-    ensures amounts { result ≡ compared (min contents.now.agents most_agents) (profile (min contents.now.agents most_agents) (min contents.now.items most_items) contents.now.table) (map items_of bundles) }
+pub fn compare(contents: Contents, bundles: Sets) -> Compared
+    ensures amounts { result ≡ compared (min contents.agents most_agents) (profile (min contents.agents most_agents) (min contents.items most_items) contents.table) (map items_of bundles) }
     ensures bound { SmallAmounts result.own }
 {
     let agents = contents.agents.min(Sheet::AGENTS);

@@ -41,8 +41,8 @@ fn grade_by(agents: usize, compared: Compared, shares: Amounts, margins: Margins
 
 // What any allocation comes to, by the terms and the shares. Agents and items above the limits of a sheet, and items in a bundle above
 // those of the sheet, count for nothing; the terms, and the shares for the margins, are cut to their limits.
-pub fn assess(contents: &Contents, terms: Terms, shares: Amounts, bundles: Sets) -> Assessed
-    ensures { result ≡ assessed (assessment_in contents.now terms shares bundles) }
+pub fn assess(contents: Contents, terms: Terms, shares: Amounts, bundles: Sets) -> Assessed
+    ensures { result ≡ assessed (assessment_in contents terms shares bundles) }
 {
     let compared = compare(contents, bundles);
     let worths = compared.own;

@@ -39,9 +39,9 @@ struct OwnCut {
 
 // The share of an agent with this valuation and its cut of all items of the sheet, in as many bundles as there are agents, with an allowance
 // that does not stop the cut.
-fn own_cut(contents: &Contents, valuation: Row, allowance: u32) -> OwnCut
-    requires { InUse contents.now.agents contents.now.items × (growths contents.now.agents contents.now.items ≤ allowance) }
-    ensures own { result ≡ own_cut contents.now.agents (all_values contents.now.items valuation) }
+fn own_cut(contents: Contents, valuation: Row, allowance: u32) -> OwnCut
+    requires { InUse contents.agents contents.items × (growths contents.agents contents.items ≤ allowance) }
+    ensures own { result ≡ own_cut contents.agents (all_values contents.items valuation) }
     ensures bound { result.share ≤ greatest_sum }
 {
     let all = all_items(contents.items);
@@ -56,9 +56,9 @@ fn own_cut(contents: &Contents, valuation: Row, allowance: u32) -> OwnCut
 }
 
 // The share and the cut of each agent: over all items, in as many bundles as there are agents, and with an allowance that stops no cut.
-fn own_cuts(contents: &Contents, allowance: u32) -> Shares
-    requires { InUse contents.now.agents contents.now.items × (growths contents.now.agents contents.now.items ≤ allowance) }
-    ensures each { result ≡ stored (map (cutting_of contents.now.agents) (valuations_of contents.now)) }
+fn own_cuts(contents: Contents, allowance: u32) -> Shares
+    requires { InUse contents.agents contents.items × (growths contents.agents contents.items ≤ allowance) }
+    ensures each { result ≡ stored (map (cutting_of contents.agents) (valuations_of contents)) }
     ensures bound { SmallAmounts result.shares }
 {
     let mut shares = [0; Sheet::AGENTS];
@@ -72,9 +72,9 @@ fn own_cuts(contents: &Contents, allowance: u32) -> Shares
 }
 
 // The makers' check, refusal 9: whether no agent's share times the number of agents exceeds the sum of its marks.
-fn shares_covered(contents: &Contents, shares: Amounts) -> bool
-    requires { SharesIn contents.now shares }
-    ensures { result ≡ shares_covered contents.now.agents (valuations_of contents.now) }
+fn shares_covered(contents: Contents, shares: Amounts) -> bool
+    requires { SharesIn contents shares }
+    ensures { result ≡ shares_covered contents.agents (valuations_of contents) }
 {
     let set = all_items(contents.items);
     for i in 0..contents.agents {
@@ -87,9 +87,9 @@ fn shares_covered(contents: &Contents, shares: Amounts) -> bool
 
 // The share and the cut of each agent, where the counts are within the limits and the allowance stops no cut. Refused with 9 where the
 // makers' check fails.
-fn checked_cuts(contents: &Contents, allowance: u32) -> Result<Shares, Refusal>
-    requires { CountsWithin contents.now.agents contents.now.items × (growths contents.now.agents contents.now.items ≤ allowance) }
-    ensures answer { answer_of result ≡ map_answer stored (sharing contents.now) }
+fn checked_cuts(contents: Contents, allowance: u32) -> Result<Shares, Refusal>
+    requires { CountsWithin contents.agents contents.items × (growths contents.agents contents.items ≤ allowance) }
+    ensures answer { answer_of result ≡ map_answer stored (sharing contents) }
     ensures bound { IfOk result (λ own. SmallAmounts own.shares) }
 {
     let own = own_cuts(contents, allowance);
@@ -102,8 +102,8 @@ fn checked_cuts(contents: &Contents, allowance: u32) -> Result<Shares, Refusal>
 // The maximin share and the cut of each agent. Refused with 4 or 5 where the agents or the items lie outside the limits, with 9 where the
 // makers' check fails, and with 14 where the growth partitions of all items into as many bundles as agents outnumber the allowance. The
 // count for 14 is tried before anything is cut: within the limits 9 is never answered.
-pub fn share_each_within(contents: &Contents, allowance: u32) -> Result<Shares, Refusal>
-    ensures answer { answer_of result ≡ map_answer stored (sharing_within contents.now allowance) }
+pub fn share_each_within(contents: Contents, allowance: u32) -> Result<Shares, Refusal>
+    ensures answer { answer_of result ≡ map_answer stored (sharing_within contents allowance) }
     ensures bound { IfOk result (λ own. SmallAmounts own.shares) }
 {
     if !agents_allowed(contents.agents) {
@@ -120,8 +120,8 @@ pub fn share_each_within(contents: &Contents, allowance: u32) -> Result<Shares, 
 
 // The maximin share and the cut of each agent, with an allowance that is enough for every table. Refused with 4 or 5 where the agents or
 // the items lie outside the limits, and with 9 where the makers' check fails.
-pub fn share_each(contents: &Contents) -> Result<Shares, Refusal>
-    ensures answer { answer_of result ≡ map_answer stored (sharing contents.now) }
+pub fn share_each(contents: Contents) -> Result<Shares, Refusal>
+    ensures answer { answer_of result ≡ map_answer stored (sharing contents) }
     ensures bound { IfOk result (λ own. SmallAmounts own.shares) }
 {
     share_each_within(contents, growth::MOST)

@@ -55,13 +55,13 @@ fn lines_true(
 
 // Whether all lines of a division are true, and the grade that it states is the grade; both counts are cut to the limits of a sheet.
 pub fn figures_true(
-    contents: &Contents,
+    contents: Contents,
     shares: Amounts,
     worths: Amounts,
     grade: u8,
     stated: Stated,
 ) -> bool
-    ensures { result ≡ figures_true_by (min contents.now.agents most_agents) (min contents.now.items most_items) contents.now.table shares worths stated.lines grade stated.grade }
+    ensures { result ≡ figures_true_by (min contents.agents most_agents) (min contents.items most_items) contents.table shares worths stated.lines grade stated.grade }
 {
     let last = contents.agents.min(Sheet::AGENTS);
     let counted = contents.items.min(Sheet::ITEMS);

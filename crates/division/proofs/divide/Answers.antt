@@ -52,18 +52,18 @@ pub returns-in_err-own-clause-answered : goal.returns-in_err-own-clause-answered
 returns-in_err-own-clause-answered c =
     let a = c.args in
     let p = err_from_is_err_and c.from_residual.result c.from_residual.ensures.1 in
-    rw (p.1, p.2) (refusal-answered a.contents.now a.allowance _ c.in_err-own.ensures.answer)
+    rw (p.1, p.2) (refusal-answered a.contents a.allowance _ c.in_err-own.ensures.answer)
 
 pub returns-in_err-own-clause-promised : goal.returns-in_err-own-clause-promised
 returns-in_err-own-clause-promised c =
     let a = c.args in
     let p = err_from_is_err_and c.from_residual.result c.from_residual.ensures.1 in
-    rw (p.1, p.2) (promised a.contents.now a.allowance _ (refusal-answered a.contents.now a.allowance _ c.in_err-own.ensures.answer))
+    rw (p.1, p.2) (promised a.contents a.allowance _ (refusal-answered a.contents a.allowance _ c.in_err-own.ensures.answer))
 
 pub divide_shared-requires : goal.divide_shared-requires
 divide_shared-requires c =
     let a = c.args in
-    let sheet = a.contents.now in
+    let sheet = a.contents in
     let own = c.in_ok-own.own in
     let told = c.in_ok-own.ensures.answer in
     let (within, enough) = answered-enough sheet own a.allowance told in
@@ -71,17 +71,17 @@ divide_shared-requires c =
     record {
       known = answered-known sheet own without c.in_ok-own.ensures.bound;
       own_cuts = answered-cuts sheet own without;
-      allowed = rw (terms-are sheet a.allowance own told c.terms_for.result c.terms_for.ensures) (terms_for-allowed a.contents.now.agents within.few);
+      allowed = rw (terms-are sheet a.allowance own told c.terms_for.result c.terms_for.ensures) (terms_for-allowed a.contents.agents within.few);
       enough = enough;
     }
 
 pub returns-clause-answered : goal.returns-clause-answered
 returns-clause-answered c =
     let a = c.args in
-    division-answered a.contents.now a.allowance c.in_ok-own.own c.in_ok-own.ensures.answer c.terms_for.result c.divide_shared.result c.terms_for.ensures c.divide_shared.ensures
+    division-answered a.contents a.allowance c.in_ok-own.own c.in_ok-own.ensures.answer c.terms_for.result c.divide_shared.result c.terms_for.ensures c.divide_shared.ensures
 
 pub returns-clause-promised : goal.returns-clause-promised
 returns-clause-promised c =
     let a = c.args in
-    let sheet = a.contents.now in
+    let sheet = a.contents in
     promised sheet a.allowance _ (division-answered sheet a.allowance c.in_ok-own.own c.in_ok-own.ensures.answer c.terms_for.result c.divide_shared.result c.terms_for.ensures c.divide_shared.ensures)

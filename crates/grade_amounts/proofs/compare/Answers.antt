@@ -25,29 +25,29 @@ row_read : (c : In-loop-i)
     → let a = c.args in
     let n = c.min-agents.result in
     let i = c.loop-i.i in
-    all_values (min a.contents.now.items most_items) (get_or a.contents.now.table i []) ≡ valuation_of (profile n (min a.contents.now.items most_items) a.contents.now.table) (i + 1)
+    all_values (min a.contents.items most_items) (get_or a.contents.table i []) ≡ valuation_of (profile n (min a.contents.items most_items) a.contents.table) (i + 1)
 row_read c =
     let a = c.args in
     let n = c.min-agents.result in
     let i = c.loop-i.i in
-    let m = min a.contents.now.items most_items in
-    sym (valuation_of-profile n m a.contents.now.table (in-range 1 n (i + 1) (omega arith) (omega arith)) ∙ ap (all_values m) (nth-next [] a.contents.now.table i))
+    let m = min a.contents.items most_items in
+    sym (valuation_of-profile n m a.contents.table (in-range 1 n (i + 1) (omega arith) (omega arith)) ∙ ap (all_values m) (nth-next [] a.contents.table i))
 
 pub loop-i-preserved : goal.loop-i-preserved
 loop-i-preserved c =
     let l = c.loop-i in
     let a = c.args in
     let n = c.min-agents.result in
-    let m = min a.contents.now.items most_items in
-    let rows = profile n m a.contents.now.table in
+    let m = min a.contents.items most_items in
+    let rows = profile n m a.contents.table in
     let bundles = map items_of a.bundles in
     let row = row_read (goal.at.loop-i-preserved c).In-loop-i in
     let own = c.value_in_use-value.result in
     let worth : own ≡ own_value n rows bundles (l.i + 1) = c.value_in_use-value.ensures.0 ∙ ap₂ value row (sym (nth-items a.bundles l.i)) in
     let whole =
     c.value_of.ensures.0
-    ∙ ap (λ set. value (get_or a.contents.now.table l.i []) (items_of set)) c.all_items-all.ensures
-    ∙ value-all m (omega arith) (get_or a.contents.now.table l.i [])
+    ∙ ap (λ set. value (get_or a.contents.table l.i []) (items_of set)) c.all_items-all.ensures
+    ∙ value-all m (omega arith) (get_or a.contents.table l.i [])
     ∙ ap total row in (
       ap (λ s. store s l.i own) l.invariant.0
           ∙ padded-range most_agents 0 (own_value n rows bundles) l.i own (omega arith) worth,
@@ -68,7 +68,7 @@ returns-clause-amounts c =
     let l = c.loop-i in
     let e : l.i ≡ c.min-agents.result = omega arith in
     made (rw e at l.invariant.0) (rw e at l.invariant.1) (rw e at l.invariant.2) (rw e at l.invariant.3)
-    ∙ ap (λ n. compared n (profile n (min a.contents.now.items most_items) a.contents.now.table) (map items_of a.bundles)) c.min-agents.ensures
+    ∙ ap (λ n. compared n (profile n (min a.contents.items most_items) a.contents.table) (map items_of a.bundles)) c.min-agents.ensures
   where
     made : {own own' greatest greatest' multiples multiples' totals totals' : List ℕ} → own ≡ own' → greatest ≡ greatest' → multiples ≡ multiples' → totals ≡ totals'
         → ◌≡◌ {A = Compared}

@@ -19,17 +19,17 @@ use Rattle.grading.proofs.assess.Goals.{After-grade_by-grade, Start}
 
 -- the agents and the places of the table in use, and the bundles as lists
 abbrev agents_of : Start → ℕ
-agents_of s = min s.args.contents.now.agents most_agents
+agents_of s = min s.args.contents.agents most_agents
 
 abbrev rows_of : Start → List (List ℕ)
-rows_of s = profile (agents_of s) (min s.args.contents.now.items most_items) s.args.contents.now.table
+rows_of s = profile (agents_of s) (min s.args.contents.items most_items) s.args.contents.table
 
 abbrev bundles_of : Start → List (List ℕ)
 bundles_of s = map items_of s.args.bundles
 
 -- what the allocation comes to
 abbrev assessment_of : Start → Assessment
-assessment_of s = let a = s.args in assessment_in a.contents.now a.terms a.shares a.bundles
+assessment_of s = let a = s.args in assessment_in a.contents a.terms a.shares a.bundles
 
 worths-told : (c : After-grade_by-grade) → c.compare-compared.result.own ≡ padded most_agents 0 (assessment_of c.before.before.before.before).worths
 unfolding assessment_in compared
@@ -41,7 +41,7 @@ margins-told c =
     let a = c.args in
     let small : SmallAmounts (padded most_agents 0 (own_values (agents_of c.before.before.before.before) (rows_of c.before.before.before.before) (bundles_of c.before.before.before.before))) = rw (worths-told c) at c.compare-compared.ensures.bound in
     c.margins_of-margins.ensures
-    ∙ ap (λ worths. margins_stored a.contents.now.agents a.terms worths a.shares) (worths-told c)
+    ∙ ap (λ worths. margins_stored a.contents.agents a.terms worths a.shares) (worths-told c)
     ∙ ap (padded most_agents (pos 0)) (margins-by-amounts (agents_of c.before.before.before.before) (rows_of c.before.before.before.before) (bundles_of c.before.before.before.before) a.shares a.terms small)
 
 grade-told : (c : After-grade_by-grade) → c.grade_by-grade.result ≡ (assessment_of c.before.before.before.before).grade

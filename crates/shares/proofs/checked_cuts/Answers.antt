@@ -15,12 +15,12 @@ use Rattle.shares.proofs.checked_cuts.Goals.{After-shares_covered}
 -- the answer by the test of refusal 9
 tested : (c : After-shares_covered) (b : Bool) → c.shares_covered.result ≡ b
     → let a = c.args in
-    sharing a.contents.now ≡ require 9 b (accepted (map (cutting_of a.contents.now.agents) (profile a.contents.now.agents a.contents.now.items a.contents.now.table)))
+    sharing a.contents ≡ require 9 b (accepted (map (cutting_of a.contents.agents) (profile a.contents.agents a.contents.items a.contents.table)))
 tested c b e =
     let a = c.args in
-    let allowed = counts-allowed a.contents.now.agents a.contents.now.items c.requires.0 in
-    sharing-counts-within a.contents.now allowed.0 allowed.1
-    ∙ ap (λ t. require 9 t (accepted (map (cutting_of a.contents.now.agents) (profile a.contents.now.agents a.contents.now.items a.contents.now.table)))) (sym c.shares_covered.ensures ∙ e)
+    let allowed = counts-allowed a.contents.agents a.contents.items c.requires.0 in
+    sharing-counts-within a.contents allowed.0 allowed.1
+    ∙ ap (λ t. require 9 t (accepted (map (cutting_of a.contents.agents) (profile a.contents.agents a.contents.items a.contents.table)))) (sym c.shares_covered.ensures ∙ e)
 
 pub shares_covered-requires : goal.shares_covered-requires
 shares_covered-requires c =
@@ -28,7 +28,7 @@ shares_covered-requires c =
     let own = c.own_cuts-own.ensures in
     record {
       counts = c.requires.0;
-      each = ap (λ o. o.shares) (own.each ∙ stored-each a.contents.now.agents a.contents.now.items a.contents.now.table);
+      each = ap (λ o. o.shares) (own.each ∙ stored-each a.contents.agents a.contents.items a.contents.table);
       small = own.bound;
     }
 

@@ -15,15 +15,15 @@ use Rattle.shares.proofs.own_cut.Goals as goal
 use Rattle.shares.proofs.own_cut.Goals.{After-cut, In-Ok}
 
 -- the cut is neither refused nor stopped
-told : (c : After-cut) → let a = c.args in answer_of c.cut.result ≡ accepted (stored (whole_cut a.contents.now.agents (all_values a.contents.now.items a.valuation)))
+told : (c : After-cut) → let a = c.args in answer_of c.cut.result ≡ accepted (stored (whole_cut a.contents.agents (all_values a.contents.items a.valuation)))
 told c =
     let a = c.args in
     c.cut.ensures
-    ∙ ap (λ set. map_answer stored (cutting a.valuation set a.contents.now.agents a.allowance)) c.all_items-all.ensures
-    ∙ ap (map_answer stored) (cutting-all a.valuation a.contents.now.agents a.contents.now.items a.allowance c.requires.0 c.requires.1)
+    ∙ ap (λ set. map_answer stored (cutting a.valuation set a.contents.agents a.allowance)) c.all_items-all.ensures
+    ∙ ap (map_answer stored) (cutting-all a.valuation a.contents.agents a.contents.items a.allowance c.requires.0 c.requires.1)
 
 -- what is found
-cutting-told : (c : In-Ok) → let a = c.args in c.in-Ok.cutting ≡ stored (whole_cut a.contents.now.agents (all_values a.contents.now.items a.valuation))
+cutting-told : (c : In-Ok) → let a = c.args in c.in-Ok.cutting ≡ stored (whole_cut a.contents.agents (all_values a.contents.items a.valuation))
 cutting-told c =
     let answered = sym (ap answer_of c.in-Ok.is) ∙ told c.before in
     cc
@@ -47,15 +47,15 @@ unfolding made
 returns-clause-own c =
     let found = cutting-told (goal.at.returns-clause-own c).In-Ok in
     let figure = sym c.in-Share.is ∙ ap (λ o. o.figure) found in
-    let share : c.in-Share.share ≡ maximin_share c.args.contents.now.agents (all_values c.args.contents.now.items c.args.valuation) = cc in
+    let share : c.in-Share.share ≡ maximin_share c.args.contents.agents (all_values c.args.contents.items c.args.valuation) = cc in
     ap₂ made share (ap (λ o. o.partition) found)
 
 pub returns-clause-bound : goal.returns-clause-bound
 returns-clause-bound c =
     let a = c.args in
     let figure = sym c.in-Share.is ∙ ap (λ o. o.figure) (cutting-told (goal.at.returns-clause-bound c).In-Ok) in
-    let share : c.in-Share.share ≡ maximin_share a.contents.now.agents (all_values a.contents.now.items a.valuation) = cc in
+    let share : c.in-Share.share ≡ maximin_share a.contents.agents (all_values a.contents.items a.valuation) = cc in
     omega (
       arith,
-      share_small a.contents.now.agents a.contents.now.items a.valuation (omega arith) (omega arith) (marks-small most_items a.valuation _ c.well_formed.1.0),
+      share_small a.contents.agents a.contents.items a.valuation (omega arith) (omega arith) (marks-small most_items a.valuation _ c.well_formed.1.0),
     )

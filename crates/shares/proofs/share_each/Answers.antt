@@ -9,4 +9,4 @@ use Rattle.shares.proofs.share_each.Goals as goal
 pub returns-clause-answer : goal.returns-clause-answer
 returns-clause-answer c =
     let a = c.args in
-    c.share_each_within.ensures.answer ∙ ap (map_answer stored) (sharing_within-most a.contents.now most_growths (omega arith))
+    c.share_each_within.ensures.answer ∙ ap (map_answer stored) (sharing_within-most a.contents most_growths (omega arith))

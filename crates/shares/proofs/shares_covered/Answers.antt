@@ -23,54 +23,54 @@ use Rattle.shares.proofs.shares_covered.Goals.{After-value_of, In-loop-i}
 -- the share that is read at agent i + 1
 share-read : (c : In-loop-i)
     → let a = c.args in
-    get_or a.shares c.loop-i.i 0 ≡ share_of a.contents.now (c.loop-i.i + 1)
+    get_or a.shares c.loop-i.i 0 ≡ share_of a.contents (c.loop-i.i + 1)
 share-read c =
     let a = c.args in
     let i = c.loop-i.i in
     sym (nth-next 0 a.shares i)
-    ∙ ap (λ l. nth 0 l (i + 1)) (c.requires.each ∙ ap (padded most_agents 0) (shares-range a.contents.now.agents a.contents.now.items a.contents.now.table))
-    ∙ nth-padded-range most_agents 0 0 (share_of a.contents.now) a.contents.now.agents (in-range 1 a.contents.now.agents (i + 1) (omega arith) (omega arith))
+    ∙ ap (λ l. nth 0 l (i + 1)) (c.requires.each ∙ ap (padded most_agents 0) (shares-range a.contents.agents a.contents.items a.contents.table))
+    ∙ nth-padded-range most_agents 0 0 (share_of a.contents) a.contents.agents (in-range 1 a.contents.agents (i + 1) (omega arith) (omega arith))
 
 -- the value of all items to agent i + 1
 total-read : (c : After-value_of)
     → let a = c.args in
-    c.value_of.result ≡ total_of a.contents.now.agents a.contents.now.items a.contents.now.table (c.loop-i.i + 1)
+    c.value_of.result ≡ total_of a.contents.agents a.contents.items a.contents.table (c.loop-i.i + 1)
 total-read c =
     let a = c.args in
     let i = c.loop-i.i in
     let all = c.all_items-set in
-    let row = get_or a.contents.now.table i [] in
+    let row = get_or a.contents.table i [] in
     let whole : c.value_of.result ≡ value row (items_of all.result) = c.value_of.ensures.0 in
-    let few : min a.contents.now.items most_items ≡ a.contents.now.items = omega arith in
+    let few : min a.contents.items most_items ≡ a.contents.items = omega arith in
     whole
     ∙ ap (λ set. value row (items_of set)) (all.ensures ∙ ap (λ m. set_of (range 1 m)) few)
-    ∙ value-all a.contents.now.items (omega arith) row
-    ∙ ap (λ row. total (all_values a.contents.now.items row)) (sym (nth-next [] a.contents.now.table i))
+    ∙ value-all a.contents.items (omega arith) row
+    ∙ ap (λ row. total (all_values a.contents.items row)) (sym (nth-next [] a.contents.table i))
 
 -- what the code compares at agent i + 1
 is_covered-read : (c : After-value_of)
     → let a = c.args in
-    is_covered a.contents.now.agents a.contents.now.items a.contents.now.table (c.loop-i.i + 1) ≡ leb (a.contents.now.agents * get_or a.shares c.loop-i.i 0) c.value_of.result
-is_covered-read c = ap₂ leb (ap (λ share. c.args.contents.now.agents * share) (sym (share-read c.before.before.before.before))) (sym (total-read c))
+    is_covered a.contents.agents a.contents.items a.contents.table (c.loop-i.i + 1) ≡ leb (a.contents.agents * get_or a.shares c.loop-i.i 0) c.value_of.result
+is_covered-read c = ap₂ leb (ap (λ share. c.args.contents.agents * share) (sym (share-read c.before.before))) (sym (total-read c))
 
 pub returns-then-contents-shares : goal.returns-then-contents-shares
 returns-then-contents-shares c =
     let a = c.args in
     let i = c.loop-i.i in
-    let above : c.value_of.result < a.contents.now.agents * get_or a.shares i 0 = omega arith in
-    let fails = is_covered-read (goal.at.returns-then-contents-shares c).After-value_of ∙ lt-leb (a.contents.now.agents * get_or a.shares i 0) c.value_of.result above in
-    sym (shares_covered-range a.contents.now.agents a.contents.now.items a.contents.now.table ∙ all-fails (is_covered a.contents.now.agents a.contents.now.items a.contents.now.table) a.contents.now.agents (i + 1) (omega arith) (omega arith) fails)
+    let above : c.value_of.result < a.contents.agents * get_or a.shares i 0 = omega arith in
+    let fails = is_covered-read (goal.at.returns-then-contents-shares c).After-value_of ∙ lt-leb (a.contents.agents * get_or a.shares i 0) c.value_of.result above in
+    sym (shares_covered-range a.contents.agents a.contents.items a.contents.table ∙ all-fails (is_covered a.contents.agents a.contents.items a.contents.table) a.contents.agents (i + 1) (omega arith) (omega arith) fails)
 
 pub loop-i-preserved : goal.loop-i-preserved
 loop-i-preserved c =
     let a = c.args in
     let i = c.loop-i.i in
-    let fits : a.contents.now.agents * get_or a.shares i 0 ≤ c.value_of.result = omega arith in
-    let holds = is_covered-read (goal.at.loop-i-preserved c).After-value_of ∙ le-leb (a.contents.now.agents * get_or a.shares i 0) c.value_of.result fits in
-    all-next (is_covered a.contents.now.agents a.contents.now.items a.contents.now.table) i c.loop-i.invariant holds
+    let fits : a.contents.agents * get_or a.shares i 0 ≤ c.value_of.result = omega arith in
+    let holds = is_covered-read (goal.at.loop-i-preserved c).After-value_of ∙ le-leb (a.contents.agents * get_or a.shares i 0) c.value_of.result fits in
+    all-next (is_covered a.contents.agents a.contents.items a.contents.table) i c.loop-i.invariant holds
 
 pub returns : goal.returns
 returns c =
     let a = c.args in
-    let e : c.loop-i.i ≡ a.contents.now.agents = omega arith in
-    sym (shares_covered-range a.contents.now.agents a.contents.now.items a.contents.now.table ∙ (rw e at c.loop-i.invariant))
+    let e : c.loop-i.i ≡ a.contents.agents = omega arith in
+    sym (shares_covered-range a.contents.agents a.contents.items a.contents.table ∙ (rw e at c.loop-i.invariant))

@@ -24,7 +24,7 @@ use Rattle.division.proofs.dividing.Instance.+divide_left.Goals.{After-settle_ro
 -- the round, once it is settled
 module _ {t : ℕ} (c : After-settle_round-round t) where
   abbrev instance : Instance
-  instance = instance_from c.args.self.now.terms c.args.self.now.contents.now.table c.args.self.now.shares
+  instance = instance_from c.args.self.now.terms c.args.self.now.contents.table c.args.self.now.shares
 
   -- the definition's round
   abbrev this-round : Round
@@ -38,7 +38,7 @@ module _ {t : ℕ} (c : After-settle_round-round t) where
   cutter-is = c.requires.1
 
   partition-is : c.args.partition ≡ placed (cutter_cut instance (agents_in c.args.left) (items_of c.args.set))
-  partition-is = c.requires.2 ∙ ap (λ cutter. placed (cut_left c.args.self.now.contents.now.table cutter (agents_in c.args.left) (items_of c.args.set))) cutter-is
+  partition-is = c.requires.2 ∙ ap (λ cutter. placed (cut_left c.args.self.now.contents.table cutter (agents_in c.args.left) (items_of c.args.set))) cutter-is
 
   -- what the round settles is what the definition's does
   settled_is : c.settle_round-round.result ≡ settled this-round
@@ -46,8 +46,8 @@ module _ {t : ℕ} (c : After-settle_round-round t) where
       let a = c.args in
       let ready = c.requires.0 in
       c.settle_round-round.ensures
-      ∙ ap₂ (λ cutter. settled_by a.self.now.terms a.self.now.contents.now.table a.self.now.shares cutter a.left a.set) cutter-is partition-is
-      ∙ settled-round cuttable a.self.now.terms ready.small_terms a.self.now.contents.now.table a.self.now.shares ready.small_shares
+      ∙ ap₂ (λ cutter. settled_by a.self.now.terms a.self.now.contents.table a.self.now.shares cutter a.left a.set) cutter-is partition-is
+      ∙ settled-round cuttable a.self.now.terms ready.small_terms a.self.now.contents.table a.self.now.shares ready.small_shares
 
   served-is : c.settle_round-round.result.served ≡ this-round.served
   served-is = ap (λ r. r.served) settled_is

@@ -36,7 +36,7 @@ bounds-self-cutter c = omega (arith, cutter-within (goal.at.bounds-self-cutter c
 -- the cut is neither refused nor stopped
 told : (c : After-cut)
     → let a = c.args in
-    let row = get_or a.self.now.contents.now.table (a.cutter - 1) [] in
+    let row = get_or a.self.now.contents.table (a.cutter - 1) [] in
     (answer_of c.cut.result ≡ accepted (cut_stored (whole_cut c.len.result (values_of row a.set)))) × (c.len.result ≡ length (agents_in a.left))
 unfolding values_of
 told c =
@@ -44,7 +44,7 @@ told c =
     let same = agents_in-items a.left c.requires.1.small_left in
     let n = c.len.result in
     let count : n ≡ length (agents_in a.left) = c.len.ensures.count ∙ ap length (c.items_of-agents.ensures ∙ sym same) in
-    let row = get_or a.self.now.contents.now.table (a.cutter - 1) [] in
+    let row = get_or a.self.now.contents.table (a.cutter - 1) [] in
     let enough : growths n (length (values_of row a.set)) ≤ a.self.now.allowance = omega (arith, ap₂ growths count (length-map (items_of a.set) (item_value row)), c.requires.2) in (
       c.cut.ensures ∙ ap (map_answer cut_stored) (cutting-shared row a.set n a.self.now.allowance (omega (arith, c.requires.1.some_left)) (omega (arith, range-sublist-few most_agents (agents_in-sublist a.left))) c.requires.1.small_set enough),
       count,
@@ -59,7 +59,7 @@ pub returns : goal.returns
 unfolding values_of
 returns c =
     let a = c.args in
-    let row = get_or a.self.now.contents.now.table (a.cutter - 1) [] in
+    let row = get_or a.self.now.contents.table (a.cutter - 1) [] in
     let (whole, count) = told (goal.at.returns c).After-cut in
     let answered = sym (ap answer_of c.in-Ok.is) ∙ whole in
     let found : c.in-Ok.cutting ≡ cut_stored (whole_cut c.len.result (values_of row a.set)) = cc in
