@@ -32,7 +32,7 @@ pub extern "C" fn divide_table(
         items,
         table: *table,
     };
-    match division::divide(&contents, allowance) {
+    match division::divide(contents, allowance) {
         Ok(division) => {
             let Division {
                 grade: graded,

@@ -25,7 +25,7 @@ pub extern "C" fn exact_table(
         items,
         table: *table,
     };
-    match exact_search::find_exact(&contents) {
+    match exact_search::find_exact(contents) {
         Ok(Some(sets)) => {
             *found = 1;
             *bundles = sets;

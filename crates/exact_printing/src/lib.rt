@@ -58,8 +58,8 @@ fn print_bundles(agents: usize, bundles: Sets, buffer: &mut [u8]) -> Result<usiz
 
 // Searches a sheet for an exact division and prints it, or the word none, from the front of the buffer. Refused
 // as by `find_exact`, else with 10 where the buffer is shorter than the text; then the buffer keeps all its bytes.
-pub fn print_exact(contents: &Contents, buffer: &mut [u8]) -> Result<usize, Refusal>
-    ensures { Printed contents.now buffer.old (answer_of result) buffer.new }
+pub fn print_exact(contents: Contents, buffer: &mut [u8]) -> Result<usize, Refusal>
+    ensures { Printed contents buffer.old (answer_of result) buffer.new }
 {
     let exact = find_exact(contents)?;
     match exact {

@@ -32,15 +32,15 @@ fn bundles_of(lines: [StatedLine; Sheet::AGENTS]) -> Sets
 
 // The margin of each agent, 0 after the last, on a division of a table that is not refused, by the terms and by the shares of its agents.
 fn judge_shared(
-    contents: &Contents,
+    contents: Contents,
     terms: Terms,
     shares: Amounts,
     division: Stated,
 ) -> Result<Margins, Refusal>
-    requires { SharesIn contents.now shares × SmallTerms terms }
-    ensures { answer_of result ≡ map_answer stored (judging_by contents.now terms (stated_in contents.now.agents (Some division))) }
+    requires { SharesIn contents shares × SmallTerms terms }
+    ensures { answer_of result ≡ map_answer stored (judging_by contents terms (stated_in contents.agents (Some division))) }
 {
-    let Contents { agents, items, .. } = *contents;
+    let Contents { agents, items, .. } = contents;
     let lines = division.lines;
     let bundles = bundles_of(lines);
     let assessed = assess(contents, terms, shares, bundles);
@@ -62,8 +62,8 @@ fn judge_shared(
 // The margin of each agent, 0 after the last, where a division of a sheet is read and all that it states is true, by the terms of document 01. Refused as the
 // shares of the sheet are; else with 11 where the division is not read or names an item that is not on the sheet, with 12 where an item is in
 // no bundle or in two, of the division or of a cut, and with 13 where a worth, a share, a cut or the grade is false.
-pub fn judge(contents: &Contents, division: Option<Stated>) -> Result<Margins, Refusal>
-    ensures { answer_of result ≡ map_answer stored (judging contents.now (stated_in contents.now.agents division)) }
+pub fn judge(contents: Contents, division: Option<Stated>) -> Result<Margins, Refusal>
+    ensures { answer_of result ≡ map_answer stored (judging contents (stated_in contents.agents division)) }
 {
     let own = share_each(contents)?;
     let terms = terms_for(contents.agents);

@@ -55,13 +55,13 @@ fn print_outcome(
 // Divides a sheet with an allowance and prints the division from the front of the buffer. Refused as by
 // `divide`, else with 10 where the buffer is shorter than the text; then the buffer keeps all its bytes.
 pub fn print_division(
-    contents: &Contents,
+    contents: Contents,
     allowance: u32,
     buffer: &mut [u8],
 ) -> Result<usize, Refusal>
-    ensures answer { answer_of result ≡ map_answer length (printing contents.now allowance (length buffer.old)) }
-    ensures buffer { buffer.new ≡ after filled (printing contents.now allowance (length buffer.old)) buffer.old }
+    ensures answer { answer_of result ≡ map_answer length (printing contents allowance (length buffer.old)) }
+    ensures buffer { buffer.new ≡ after filled (printing contents allowance (length buffer.old)) buffer.old }
 {
     let division = divide(contents, allowance)?;
-    print_outcome(*contents, division, buffer)
+    print_outcome(contents, division, buffer)
 }

@@ -17,7 +17,7 @@ pub fn share_out(text: &[u8], allowance: u32, buffer: &mut [u8]) -> Result<usize
     ensures buffer { buffer.new ≡ after filled (share_out text.now allowance (length buffer.old)) buffer.old }
 {
     let contents = reading::read(text)?;
-    printing::print_division(&contents, allowance, buffer)
+    printing::print_division(contents, allowance, buffer)
 }
 
 // The same with the allowance of the dividing program, which is enough for every sheet.

@@ -12,5 +12,5 @@ pub fn show_exact(text: &[u8], buffer: &mut [u8]) -> Result<usize, Refusal>
     ensures { Shown text.now buffer.old (answer_of result) buffer.new }
 {
     let contents = reading::read(text)?;
-    exact_printing::print_exact(&contents, buffer)
+    exact_printing::print_exact(contents, buffer)
 }

@@ -19,12 +19,12 @@ pub mod accepted;
 
 // Judges a division of a sheet and prints the margins; refused as by `judge`, else with 10 where the buffer is shorter than the text.
 fn print_judged(
-    contents: &Contents,
+    contents: Contents,
     stated: Option<Stated>,
     buffer: &mut [u8],
 ) -> Result<usize, Refusal>
-    ensures answer { answer_of result ≡ map_answer length (printing_judgement contents.now (stated_in contents.now.agents stated) (length buffer.old)) }
-    ensures buffer { buffer.new ≡ after filled (printing_judgement contents.now (stated_in contents.now.agents stated) (length buffer.old)) buffer.old }
+    ensures answer { answer_of result ≡ map_answer length (printing_judgement contents (stated_in contents.agents stated) (length buffer.old)) }
+    ensures buffer { buffer.new ≡ after filled (printing_judgement contents (stated_in contents.agents stated) (length buffer.old)) buffer.old }
 {
     let margins = judge(contents, stated)?;
     print_margins(contents.agents, margins, buffer)
@@ -39,5 +39,5 @@ pub fn judge_division(text: &[u8], buffer: &mut [u8]) -> Result<usize, Refusal>
     let (contents, behind) = reading::read_front(text)?;
     let Contents { agents, items, .. } = contents;
     let stated = read_division(text, behind, Sheet { agents, items });
-    print_judged(&contents, stated, buffer)
+    print_judged(contents, stated, buffer)
 }

@@ -16,5 +16,5 @@ pub fn write_strict(text: &[u8], buffer: &mut [u8]) -> Result<usize, Refusal>
     ensures buffer { buffer.new ≡ after filled (rewriting text.now (length buffer.old)) buffer.old }
 {
     let contents = reading::read(text)?;
-    strict_writing::write_sheet(&contents, buffer)
+    strict_writing::write_sheet(contents, buffer)
 }

@@ -29,17 +29,17 @@ fn sheet_length(contents: Contents) -> usize
 {
     let mut place = [0u8; LONGEST_OF_ANY];
     let mut writer = Writer::new(&mut place);
-    put_sheet(&mut writer, &contents);
+    put_sheet(&mut writer, contents);
     writer.at
 }
 
 // Writes the strict text of a sheet from the front of the buffer; refused with 10 where the buffer is shorter than the
 // text, and then the buffer keeps all its bytes.
-pub fn write_sheet(contents: &Contents, buffer: &mut [u8]) -> Result<usize, Refusal>
-    ensures answer { answer_of result ≡ map_answer length (filling (length buffer.old) (strict_text contents.now)) }
-    ensures buffer { buffer.new ≡ after filled (filling (length buffer.old) (strict_text contents.now)) buffer.old }
+pub fn write_sheet(contents: Contents, buffer: &mut [u8]) -> Result<usize, Refusal>
+    ensures answer { answer_of result ≡ map_answer length (filling (length buffer.old) (strict_text contents)) }
+    ensures buffer { buffer.new ≡ after filled (filling (length buffer.old) (strict_text contents)) buffer.old }
 {
-    let length = sheet_length(*contents);
+    let length = sheet_length(contents);
     if buffer.len() < length {
         return Err(Refusal::BufferTooShort);
     }

@@ -43,8 +43,8 @@ fn put_yard(writer: &mut Writer, agent: usize, marks: Row, items: usize)
 }
 
 // The lines of the agents.
-fn put_yards(writer: &mut Writer, contents: &Contents)
-    ensures { Writes writer.old (yard_texts 1 (rows_in_use contents.now.agents contents.now.items contents.now.table)) writer.new }
+fn put_yards(writer: &mut Writer, contents: Contents)
+    ensures { Writes writer.old (yard_texts 1 (rows_in_use contents.agents contents.items contents.table)) writer.new }
 {
     let agents = contents.agents.min(contents.table.len());
     for (i, marks) in contents.table[..agents].iter().enumerate() {
@@ -53,8 +53,8 @@ fn put_yards(writer: &mut Writer, contents: &Contents)
 }
 
 // The whole strict text of a sheet.
-pub fn put_sheet(writer: &mut Writer, contents: &Contents)
-    ensures { Writes writer.old (strict_text contents.now) writer.new }
+pub fn put_sheet(writer: &mut Writer, contents: Contents)
+    ensures { Writes writer.old (strict_text contents) writer.new }
 {
     put_head(writer, contents.agents, contents.items);
     put_yards(writer, contents);

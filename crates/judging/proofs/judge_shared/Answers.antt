@@ -25,25 +25,25 @@ use Rattle.judging.proofs.judge_shared.Goals.{After-figures_true-correct}
 
 -- the sheet
 abbrev sheet_in : After-figures_true-correct → Contents
-sheet_in s = s.args.contents.now
+sheet_in s = s.args.contents
 
 -- what is stated of it, as it is handed over
 abbrev stated_at : After-figures_true-correct → Option Stated
-stated_at s = stated_in s.args.contents.now.agents (Some s.args.division)
+stated_at s = stated_in s.args.contents.agents (Some s.args.division)
 
 -- what the lines state
 abbrev division : After-figures_true-correct → Stated
-division c = let a = c.args in stated_of a.contents.now.agents a.division.grade a.division.lines
+division c = let a = c.args in stated_of a.contents.agents a.division.grade a.division.lines
 
 -- the answer on it
 abbrev answer : After-figures_true-correct → Answer (List ℤ)
 answer c = judging_read (sheet_in c) c.args.terms (division c)
 
 -- the sets of the agents in use have the items of their bundles
-same-items : (c : After-figures_true-correct) (i : ℕ) → Mem i (range 1 c.args.contents.now.agents) → nth [] (map items_of c.bundles_of-bundles.result) i ≡ nth [] (bundles_of (division c)) i
+same-items : (c : After-figures_true-correct) (i : ℕ) → Mem i (range 1 c.args.contents.agents) → nth [] (map items_of c.bundles_of-bundles.result) i ≡ nth [] (bundles_of (division c)) i
 same-items c i mi =
     let a = c.args in
-    ap (λ sets. nth [] (map items_of sets) i) c.bundles_of-bundles.ensures.each ∙ nth-bundle a.contents.now.agents a.division.grade a.division.lines mi
+    ap (λ sets. nth [] (map items_of sets) i) c.bundles_of-bundles.ensures.each ∙ nth-bundle a.contents.agents a.division.grade a.division.lines mi
 
 -- what the division comes to
 assessed-told : (c : After-figures_true-correct) → c.assess-assessed.result ≡ assessed (assessment_by_terms (sheet_in c) c.args.terms (bundles_of (division c)))
@@ -61,35 +61,35 @@ grade-told : (c : After-figures_true-correct) → grade_by_terms (sheet_in c) c.
 grade-told c = sym (ap (λ r. r.grade) (assessed-told c))
 
 -- the counts are within the limits of a sheet, so that neither is cut
-agents-kept : (c : After-figures_true-correct) → let n = c.args.contents.now.agents in n ≡ min n most_agents
+agents-kept : (c : After-figures_true-correct) → let n = c.args.contents.agents in n ≡ min n most_agents
 agents-kept c = omega (arith, c.requires.0.counts.few)
 
-items_kept : (c : After-figures_true-correct) → let m = c.args.contents.now.items in m ≡ min m most_items
+items_kept : (c : After-figures_true-correct) → let m = c.args.contents.items in m ≡ min m most_items
 items_kept c = omega (arith, c.requires.0.counts.few_items)
 
 -- a test of the bundles and the cuts, for the counts of the sheet
 test-told : (c : After-figures_true-correct) (test : ℕ → ℕ → List (List ℕ) → Bool)
     → let a = c.args in
-    let n = a.contents.now.agents in
-    let m = a.contents.now.items in
+    let n = a.contents.agents in
+    let m = a.contents.items in
     bundles_and_cuts (test n m) (division c) ≡ sets_and_cuts (min n most_agents) (test (min n most_agents) (min m most_items)) c.bundles_of-bundles.result a.division.lines
 test-told c test =
     let a = c.args in
-    let n = a.contents.now.agents in
-    let m = a.contents.now.items in
+    let n = a.contents.agents in
+    let m = a.contents.items in
     test-stated n a.division.grade a.division.lines c.requires.0.counts.few c.bundles_of-bundles.ensures.places (test n m)
     ∙ ap (λ sets. sets_and_cuts n (test n m) sets a.division.lines) (sym c.bundles_of-bundles.ensures.each)
     ∙ ap₂ (λ n m. sets_and_cuts n (test n m) c.bundles_of-bundles.result a.division.lines) (agents-kept c) (items_kept c)
 
 -- the second test of refusal 11
 abbrev of_this_sheet : After-figures_true-correct → Bool
-of_this_sheet c = let a = c.args in bundles_and_cuts (of_sheet a.contents.now.agents a.contents.now.items) (division c)
+of_this_sheet c = let a = c.args in bundles_and_cuts (of_sheet a.contents.agents a.contents.items) (division c)
 
 of-sheet-told : (c : After-figures_true-correct) → of_this_sheet c ≡ c.all_of_sheet-named.result
 of-sheet-told c = test-told c of_sheet ∙ sym c.all_of_sheet-named.ensures
 
 -- the test of refusal 12
-in-one-told : (c : After-figures_true-correct) → bundles_and_cuts (each_in_one c.args.contents.now.items) (division c) ≡ c.all_in_one-once.result
+in-one-told : (c : After-figures_true-correct) → bundles_and_cuts (each_in_one c.args.contents.items) (division c) ≡ c.all_in_one-once.result
 in-one-told c = test-told c (λ n. each_in_one) ∙ sym c.all_in_one-once.ensures
 
 -- the test of refusal 13
@@ -97,7 +97,7 @@ figures-told : (c : After-figures_true-correct) → figures_true (sheet_in c) c.
 figures-told c =
     let a = c.args in
     figures-stated (sheet_in c) c.requires.0 a.division.grade a.division.lines c.bundles_of-bundles.ensures.places (ap (λ r. r.worths) (assessed-told c)) a.terms c.assess-assessed.result.grade (grade-told c)
-    ∙ ap₂ (λ n m. figures_true_by n m a.contents.now.table a.shares c.assess-assessed.result.worths a.division.lines c.assess-assessed.result.grade a.division.grade) (agents-kept c) (items_kept c)
+    ∙ ap₂ (λ n m. figures_true_by n m a.contents.table a.shares c.assess-assessed.result.worths a.division.lines c.assess-assessed.result.grade a.division.grade) (agents-kept c) (items_kept c)
     ∙ sym c.figures_true-correct.ensures
 
 -- the answer is that on what is stated
@@ -105,7 +105,7 @@ answer-read : (c : After-figures_true-correct) → judging_by (sheet_in c) c.arg
 answer-read c = judging-within (sheet_in c) c.args.terms (stated_at c) c.requires.0.counts
 
 -- each item is in just one bundle
-once : (c : After-figures_true-correct) → c.all_in_one-once.result ≡ true → bundles_and_cuts (each_in_one c.args.contents.now.items) (division c) ≡ true
+once : (c : After-figures_true-correct) → c.all_in_one-once.result ≡ true → bundles_and_cuts (each_in_one c.args.contents.items) (division c) ≡ true
 once c e = in-one-told c ∙ e
 
 pub returns-then-not-named : goal.returns-then-not-named

@@ -12,7 +12,7 @@ use Rattle.strict_writing.proofs.write_sheet.Goals as goal
 
 pub returns-clause-buffer : goal.returns-clause-buffer
 returns-clause-buffer c =
-    let text : List ℕ = strict_text c.args.contents.now in
+    let text : List ℕ = strict_text c.args.contents in
     let lent = ap (λ b. b.now) c.new-writer.ensures.buffer in
     let room : length text ≤ length c.args.buffer.now = omega (arith, c.sheet_length-length.ensures) in
     let whole = rw lent at (written-whole c.put_sheet.ensures c.new-writer.ensures.place (rw lent room)).bytes_of in

@@ -12,4 +12,4 @@ loop-i-init c = nothing
 pub loop-i-preserved : goal.loop-i-preserved
 loop-i-preserved c =
     let l = c.loop-i in
-    rw (yard_texts-next c.args.contents.now.items (take c.min-agents.result c.args.contents.now.table) l.i (omega arith)) (l.invariant then c.put_yard.ensures)
+    rw (yard_texts-next c.args.contents.items (take c.min-agents.result c.args.contents.table) l.i (omega arith)) (l.invariant then c.put_yard.ensures)
