@@ -44,12 +44,12 @@ module _ {A : Type 0} (n : ℕ) (d : A) where
   store-padded-taken k l v room blank =
       let few : length (take k l) ≡ k = length-padded-taken k l (omega arith) blank in
       let next : store l k v ≡ padded n d (take k l ++ (v ∷ [])) =
-          ap (λ m. store m k v) blank
-          ∙ ap (λ i. store (padded n d (take k l)) i v) (sym few)
-          ∙ padded-next (take k l) v (omega (arith, few)) in
+      ap (λ m. store m k v) blank
+      ∙ ap (λ i. store (padded n d (take k l)) i v) (sym few)
+      ∙ padded-next (take k l) v (omega (arith, few)) in
       let longer : length (take k l ++ (v ∷ [])) ≡ k + 1 = length-append (take k l) (v ∷ []) ∙ ap (λ i. i + 1) few in
       let front : take (k + 1) (store l k v) ≡ take k l ++ (v ∷ []) =
-          ap₂ take (sym longer) next ∙ take-padded (take k l ++ (v ∷ [])) in
+      ap₂ take (sym longer) next ∙ take-padded (take k l ++ (v ∷ [])) in
       next ∙ ap (padded n d) (sym front)
 
   -- all places blank, and then a list stored from the first on
