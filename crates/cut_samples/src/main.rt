@@ -83,11 +83,17 @@ fn first_player(rt: &impl Print, row: Row) -> io::Result<()> {
     show(rt, row, ALL, 3, ENOUGH)
 }
 
+// A text and a number behind it, in a write each.
+fn print_field(rt: &impl Print, text: &str, n: u64) -> io::Result<()> {
+    print!(rt; "{text}")?;
+    print!(rt; "{n}")
+}
+
 // The marks of a row.
 fn show_row(rt: &impl Print, row: Row) -> io::Result<()> {
     print!(rt; "marks")?;
     for mark in &row {
-        print!(rt; " {mark}")?;
+        print_field(rt, " ", u64::from(*mark))?;
     }
     println!(rt;)
 }
@@ -99,11 +105,13 @@ fn show(
     bundles: usize,
     allowance: u32,
 ) -> io::Result<()> {
-    print!(rt; "set {set} into {bundles}, allowed {allowance}: ")?;
+    print_field(rt, "set ", u64::from(set))?;
+    print_field(rt, " into ", bundles as u64)?;
+    print_field(rt, ", allowed ", u64::from(allowance))?;
     match cut::cut(valuation, set, bundles, allowance) {
         Ok(found) => show_found(rt, found),
         Err(refusal) => {
-            print!(rt; "refused {}", refusal.number())?;
+            print_field(rt, ": refused ", u64::from(refusal.number()))?;
             show_partition(rt, 0, [0; Sheet::ITEMS])
         }
     }
@@ -111,17 +119,18 @@ fn show(
 
 fn show_found(rt: &impl Print, found: Cutting) -> io::Result<()> {
     match found.figure {
-        Figure::Share(share) => print!(rt; "share {share}")?,
-        Figure::Stopped(least) => print!(rt; "stopped {least}")?,
+        Figure::Share(share) => print_field(rt, ": share ", share)?,
+        Figure::Stopped(least) => print_field(rt, ": stopped ", least)?,
     }
     show_partition(rt, found.count, found.partition)
 }
 
 // How many growth partitions were looked at, and the places of a partition, those not in use too.
 fn show_partition(rt: &impl Print, count: u32, partition: Partition) -> io::Result<()> {
-    print!(rt; ", looked at {count}, layout")?;
+    print_field(rt, ", looked at ", u64::from(count))?;
+    print!(rt; ", layout")?;
     for bundle in &partition {
-        print!(rt; " {bundle}")?;
+        print_field(rt, " ", u64::from(*bundle))?;
     }
     println!(rt;)
 }

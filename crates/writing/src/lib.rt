@@ -123,6 +123,7 @@ pub fn fill(text: &[u8], buffer: &mut [u8]) -> Result<usize, Refusal>
     if buffer.len() < text.len() {
         return Err(Refusal::BufferTooShort);
     }
-    buffer[..text.len()].copy_from_slice(text);
+    let mut writer = Writer::new(buffer);
+    writer.bytes(text);
     Ok(text.len())
 }
