@@ -12,6 +12,7 @@ use sheet::refusal::Refusal;
 
 // Prints the division of the sheet that `text` holds, with an allowance for cutting, into the lent buffer and answers the length
 // printed, or answers the number of the first reason to turn the sheet down and leaves the buffer as it is.
+#[tactic(auto, using(crate::proofs::ByPrinting::reasons))]
 pub fn share_out(text: &[u8], allowance: u32, buffer: &mut [u8]) -> Result<usize, Refusal>
     ensures answer { answer_of result ≡ map_answer length (share_out text.now allowance (length buffer.old)) }
     ensures buffer { buffer.new ≡ after filled (share_out text.now allowance (length buffer.old)) buffer.old }

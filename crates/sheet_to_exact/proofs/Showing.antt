@@ -1,9 +1,12 @@
 -- How each answer of reading is shown. Assumes nothing.
 use mathlib.Core.Path.{◌≡◌, sym, ap, subst, ◌∙◌}
 use mathlib.Core.List.{List, []}
+use Rattle.std.specs.Prelude.{Err}
 use Prim.Native.Nat.{ℕ}
 use lib.ListN.{length}
 use Rattle.sheet.specs.Answers.{Answer, refused, accepted, map_answer, and_then, after}
+use Rattle.sheet.specs.Refusals.{number, answer_of}
+use Rattle.sheet.specs.declared.refusal.Refusal.{Refusal}
 use Rattle.sheet.proofs.Accepted.{refused-not-accepted}
 use Rattle.sheet.specs.Contents.{Contents}
 use Rattle.reading.specs.Reading.{reading}
@@ -30,6 +33,10 @@ module _ (text : List ℕ) where
         buffer = ap (λ p. after filled p old) told;
       }
 
+  -- and so is the reason that the code gives for it
+  pub reason-shown : (e : Refusal) (old : List ℕ) → answer_of (Err e) ≡ reading text → Shown text old (answer_of (Err e)) old
+  reason-shown e old told = refusal-shown (number e) old (sym told)
+
   -- the answer to an accepted text is that to the sheet that was read
   pub printed-shown : (sheet : Contents) {old new : List ℕ} {r : Answer ℕ} → reading text ≡ accepted sheet → Printed sheet old r new → Shown text old r new
   unfolding exact_from
@@ -41,3 +48,5 @@ module _ (text : List ℕ) where
         answer = p.answer ∙ ap (map_answer length) told;
         buffer = p.buffer ∙ ap (λ q. after filled q old) told;
       }
+
+pub ruleset reasons = (reason-shown)

@@ -8,6 +8,7 @@ use sheet::refusal::Refusal;
 
 // Prints an exact division of the sheet that `text` holds, or the word none, into the lent buffer and answers the length printed, or answers
 // the number of the first reason to turn the sheet down and leaves the buffer as it is.
+#[tactic(auto, using(crate::proofs::Showing::reasons))]
 pub fn show_exact(text: &[u8], buffer: &mut [u8]) -> Result<usize, Refusal>
     ensures { Shown text.now buffer.old (answer_of result) buffer.new }
 {

@@ -4,14 +4,15 @@ use mathlib.Core.List.{List}
 use Rattle.std.specs.Prelude.{Option, Ok, Err}
 use Prim.Native.Nat.{ℕ, ◌≤◌}
 use lib.IntN.{ℤ}
+use lib.ListN.{length}
 use Rattle.lists.specs.Lists.{nth}
 use Rattle.sheet.specs.Limits.{most_agents}
 use Rattle.sheet.specs.Contents.{Contents, valuations_of}
-use Rattle.sheet.specs.Answers.{refused, accepted, map_answer}
+use Rattle.sheet.specs.Answers.{refused, accepted, map_answer, after}
 use Rattle.sheet.specs.Refusals.{number, answer_of}
 use Rattle.sheet.specs.declared.refusal.Refusal.{Refusal}
 use Rattle.sheet.proofs.Answering.{accepted-of_ok}
-use Rattle.writing.specs.Filled.{filling}
+use Rattle.writing.specs.Filled.{filling, filled}
 use Rattle.writing.proofs.Following.{refusal-follows}
 use Rattle.shares.specs.Shares.{shares_of}
 use Rattle.terms.specs.Terms.{terms_of}
@@ -38,6 +39,14 @@ module _ (sheet : Contents) (stated : Option Stated) where
   unfolding printing_judgement
   refusal-printed e told room = refusal-follows stored (judging sheet stated) (λ margins. filling room (accepted_text margins)) e told
 
+  -- and so is the reason that the code gives for it, with the buffer as it was
+  pub reason-answered : (e : Refusal) (room : ℕ) → answer_of (Err e) ≡ map_answer stored (judging sheet stated)
+      → answer_of (Err e) ≡ map_answer length (printing_judgement sheet stated room)
+  reason-answered e room told = sym (ap (map_answer length) (refusal-printed e told room))
+
+  pub reason-kept : (e : Refusal) (old : List ℕ) → answer_of (Err e) ≡ map_answer stored (judging sheet stated) → old ≡ after filled (printing_judgement sheet stated (length old)) old
+  reason-kept e old told = sym (ap (λ p. after filled p old) (refusal-printed e told (length old)))
+
   module _ (margins : List ℤ) (told : answer_of (Ok margins) ≡ map_answer stored (judging sheet stated)) where
     margins-accepted : (l : List ℤ) × (judging sheet stated ≡ accepted l) × (margins ≡ stored l)
     margins-accepted = accepted-of_ok stored (judging sheet stated) margins told
@@ -58,3 +67,5 @@ module _ (sheet : Contents) (stated : Option Stated) where
     pub margins-printed : (room : ℕ) → printing_judgement sheet stated room ≡ filling room (margins_text sheet.agents margins)
     unfolding printing_judgement
     margins-printed room = rw (margins-accepted.1, text-accepted)
+
+pub ruleset reasons = (reason-answered, reason-kept)

@@ -18,6 +18,7 @@ use sheet::{Contents, Sheet};
 pub mod accepted;
 
 // Judges a division of a sheet and prints the margins; refused as by `judge`, else with 10 where the buffer is shorter than the text.
+#[tactic(auto, using(crate::proofs::Answers::reasons))]
 fn print_judged(
     contents: Contents,
     stated: Option<Stated>,
@@ -32,6 +33,7 @@ fn print_judged(
 
 // Judges the division that stands behind the sheet of `text`, prints the margins into the lent buffer and answers the length printed, or answers
 // the first reason to turn the text down and leaves the buffer as it is.
+#[tactic(auto, using(crate::proofs::FrontJudged::reasons))]
 pub fn judge_division(text: &[u8], buffer: &mut [u8]) -> Result<usize, Refusal>
     ensures answer { answer_of result ≡ map_answer length (judgement_from text.now (length buffer.old)) }
     ensures buffer { buffer.new ≡ after filled (judgement_from text.now (length buffer.old)) buffer.old }

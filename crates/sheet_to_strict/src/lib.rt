@@ -11,6 +11,7 @@ use sheet::refusal::Refusal;
 
 // Writes the strict text of the sheet that `text` holds into the lent buffer and answers its length, or answers the number of the
 // first reason to turn the sheet down and leaves the buffer as it is.
+#[tactic(auto, using(crate::proofs::Read::reasons))]
 pub fn write_strict(text: &[u8], buffer: &mut [u8]) -> Result<usize, Refusal>
     ensures answer { answer_of result ≡ map_answer length (rewriting text.now (length buffer.old)) }
     ensures buffer { buffer.new ≡ after filled (rewriting text.now (length buffer.old)) buffer.old }
