@@ -1,8 +1,8 @@
 // What a byte of a text is.
-ghost use Rattle.std.specs.Prelude.{◌≡◌};
+ghost use Rattle.std.specs.Prelude.{◌≡◌, eqb};
+ghost use Rattle.tokens.specs.Lines.{semicolon};
 ghost use Rattle.tokens.specs.Tokens.{is_word_byte};
 ghost use Rattle.tokens.specs.TokensAfter.{is_delimiter, counts_for_nothing};
-ghost use Rattle.tokeniser.specs.NextToken.{in_remark};
 
 // Whether the byte is a token by itself.
 pub(crate) fn is_delimiter(b: u8) -> bool
@@ -18,11 +18,11 @@ pub(crate) fn is_word_byte(b: u8) -> bool
     !(b == b' ' || b == b';' || is_delimiter(b))
 }
 
-// Whether the byte belongs to a remark, by whether the one before it does: a semicolon begins one, a line feed ends it.
-pub(crate) fn in_remark(before: bool, byte: u8) -> bool
-    ensures { result ≡ in_remark before byte }
+// Whether a remark begins with this byte.
+pub(crate) fn begins_remark(first: u8) -> bool
+    ensures { result ≡ eqb first semicolon }
 {
-    (before || byte == b';') && byte != b'\n'
+    first == b';'
 }
 
 // Whether the byte counts for nothing, on a line that has begun with a token, or not: a space, one that begins a remark, the end of a

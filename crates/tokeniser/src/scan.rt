@@ -1,27 +1,31 @@
 // Where tokens, and bytes that count for nothing, end.
 ghost use Rattle.std.specs.Prelude.{◌+◌, ◌≤◌, ◌<◌, ◌≡◌, false, length, drop};
 ghost use Rattle.tokeniser.specs.NextToken.{blanks};
-ghost use Rattle.tokeniser.specs.internal.Scanned.{word_bytes, token_bytes};
+ghost use Rattle.tokeniser.specs.internal.Scanned.{remark_bytes, word_bytes, token_bytes};
 
-use crate::bytes::{counts_for_nothing, in_remark, is_delimiter, is_word_byte};
+use crate::bytes::{begins_remark, counts_for_nothing, is_delimiter, is_word_byte};
+
+// How many bytes of a remark stand at the front of a text: those before its first line feed.
+fn remark_bytes(s: &[u8]) -> usize
+    ensures { result ≡ remark_bytes s.now }
+{
+    s.iter().take_while(|b| **b != b'\n').count()
+}
 
 // The first place from `at` on where a token begins, or the end of the text.
 pub(crate) fn token_start(s: &[u8], at: usize, begun: bool) -> usize
     requires { at ≤ length s.now }
     ensures { result ≡ at + blanks begun false (drop at s.now) }
 {
-    let mut remark = false;
-    for i in at..s.len() {
-        let byte = s[i];
-        if remark && byte != b'\n' {
-            continue;
-        }
-        if !counts_for_nothing(begun, byte) {
-            return i;
-        }
-        remark = in_remark(remark, byte);
+    let mut i = at;
+    while i < s.len() && counts_for_nothing(begun, s[i]) {
+        i = if begins_remark(s[i]) {
+            i + 1 + remark_bytes(&s[i + 1..])
+        } else {
+            i + 1
+        };
     }
-    s.len()
+    i
 }
 
 // How many bytes of a word stand at the front of a text.

@@ -1,8 +1,13 @@
--- How far the token at the front of a text goes. Assumes nothing: these are definitions.
-use Rattle.std.specs.Prelude.{List, [], ◌∷◌, cond, ℕ, suc}
+-- How far a remark or a token at the front of a text goes. Assumes nothing: these are definitions.
+use Rattle.std.specs.Prelude.{List, [], ◌∷◌, not, cond, ℕ, suc, eqb}
 use Rattle.std.specs.List.{prefix_len}
+use Rattle.tokens.specs.Lines.{line_feed}
 use Rattle.tokens.specs.Tokens.{is_word_byte}
 use Rattle.tokens.specs.TokensAfter.{is_delimiter}
+
+-- how many bytes of a remark stand at the front of a text: those before its first line feed
+abbrev pub remark_bytes : List ℕ → ℕ
+remark_bytes s = prefix_len (λ b. not (eqb b line_feed)) s
 
 -- how many bytes of a word stand at the front of a text
 abbrev pub word_bytes : List ℕ → ℕ
