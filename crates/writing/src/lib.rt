@@ -7,6 +7,7 @@ ghost use Rattle.sheet.specs.Answers.{map_answer, after};
 ghost use Rattle.sheet.specs.Refusals.{answer_of};
 ghost use Rattle.writing.specs.Fields.{group};
 ghost use Rattle.writing.specs.Filled.{filling, filled};
+ghost use Rattle.writing.specs.Output.{output, with_byte, with_bytes};
 ghost use Rattle.writing.specs.WithText.{Writes};
 
 use sheet::refusal::Refusal;
@@ -39,30 +40,28 @@ impl<'a> Writer<'a> {
     pub fn byte(&mut self, byte: u8)
         ensures { Writes self.old (byte ∷ []) self.new }
     {
-        let at = self.at;
-        if at < self.buffer.len() {
-            self.buffer[at] = byte;
-            self.at += 1;
-        }
+        self.at = put_byte(self.buffer, self.at, byte);
     }
 
-    // Bytes that stand in another buffer.
+    // Bytes that stand in another buffer: a writer of their own keeps the place, which is stored once.
     pub fn bytes(&mut self, text: &[u8])
         ensures { Writes self.old text.now self.new }
     {
+        let mut writer = Writer {
+            buffer: &mut *self.buffer,
+            at: self.at,
+        };
         for byte in text {
-            self.byte(*byte);
+            writer.byte(*byte);
         }
+        self.at = writer.at;
     }
 
-    // A number in decimal digits: those of the tens, and then the last one.
+    // A number in decimal digits.
     pub fn number(&mut self, n: u64)
         ensures { Writes self.old (decimal n) self.new }
     {
-        if n >= 10 {
-            self.number(n / 10);
-        }
-        self.byte(b'0' + (n % 10) as u8);
+        self.at = put_digits(self.buffer, self.at, n);
     }
 
     // A whole number in decimal digits, with a minus sign where it is below zero.
@@ -113,6 +112,30 @@ impl<'a> Writer<'a> {
             }
         }
     }
+}
+
+// One byte at a place of a buffer, where there is room; the place of the byte that comes next.
+fn put_byte(buffer: &mut [u8], at: usize, byte: u8) -> usize
+    ensures { output buffer.new result ≡ with_byte (output buffer.old at) byte }
+{
+    if at < buffer.len() {
+        buffer[at] = byte;
+        at + 1
+    } else {
+        at
+    }
+}
+
+// A number in decimal digits, those of the tens and then the last one; the place of the byte that comes next.
+fn put_digits(buffer: &mut [u8], at: usize, n: u64) -> usize
+    ensures { output buffer.new result ≡ with_bytes (output buffer.old at) (decimal n) }
+{
+    let last = if n >= 10 {
+        put_digits(buffer, at, n / 10)
+    } else {
+        at
+    };
+    put_byte(buffer, last, b'0' + (n % 10) as u8)
 }
 
 // A text from the front of a buffer; refused with 10 where the buffer is shorter than the text, and then the buffer keeps all its bytes.

@@ -4,4 +4,4 @@ use Rattle.writing.specs.WithText.{Writes}
 use Rattle.writing.proofs.Writer.bytes.Given as goal
 
 abbrev pub invariant-loop-byte : goal.invariant-loop-byte
-invariant-loop-byte l = Writes l.initial.self (take l.byte-index l.text) l.self
+invariant-loop-byte l = Writes l.initial.writer (take l.byte-index l.text) l.writer

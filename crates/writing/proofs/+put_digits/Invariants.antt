@@ -1,0 +1,5 @@
+-- The measure of the cycle of calls {put_digits}: the number.
+use Rattle.writing.proofs.+put_digits.Given as goal
+
+abbrev pub decreases-put_digits : goal.decreases-put_digits
+decreases-put_digits l = l.n
