@@ -3,7 +3,6 @@ use Rattle.sheet.specs.Limits.{set_bits}
 use Rattle.lists.proofs.places.Padding.{store-padded-taken}
 use Rattle.sheet.proofs.listing.ShortList.push.Goals as goal
 
--- src/listing.rt:88:13
 pub invariant_of-self : goal.invariant_of-self
 invariant_of-self g c = (
   omega (arith, c.if-self-lt-SET_BITS.true),
