@@ -21,13 +21,18 @@ fn put_head(writer: &mut Writer, agents: usize, items: usize)
     writer.bytes(&LINE_END);
 }
 
-// Marks of one agent.
+// Marks of one agent, by a writer of their own: its place is stored once.
 fn put_marks(writer: &mut Writer, marks: &[Mark])
     ensures { Writes writer.old (spaced_numbers marks.now) writer.new }
 {
+    let mut line = Writer {
+        buffer: &mut *writer.buffer,
+        at: writer.at,
+    };
     for mark in marks {
-        writer.spaced_number(u64::from(*mark));
+        line.spaced_number(u64::from(*mark));
     }
+    writer.at = line.at;
 }
 
 // The line of one agent: its number and its marks.

@@ -130,11 +130,10 @@ fn put_byte(buffer: &mut [u8], at: usize, byte: u8) -> usize
 fn put_digits(buffer: &mut [u8], at: usize, n: u64) -> usize
     ensures { output buffer.new result ≡ with_bytes (output buffer.old at) (decimal n) }
 {
-    let last = if n >= 10 {
-        put_digits(buffer, at, n / 10)
-    } else {
-        at
-    };
+    if n < 10 {
+        return put_byte(buffer, at, b'0' + n as u8);
+    }
+    let last = put_digits(buffer, at, n / 10);
     put_byte(buffer, last, b'0' + (n % 10) as u8)
 }
 

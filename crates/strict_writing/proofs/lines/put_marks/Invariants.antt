@@ -5,4 +5,4 @@ use Rattle.writing.specs.WithText.{Writes}
 use Rattle.strict_writing.proofs.lines.put_marks.Given as goal
 
 abbrev pub invariant-loop-mark : goal.invariant-loop-mark
-invariant-loop-mark l = Writes l.initial.writer (spaced_numbers (take l.mark-index l.marks)) l.writer
+invariant-loop-mark l = Writes l.initial.line (spaced_numbers (take l.mark-index l.marks)) l.line
