@@ -6,16 +6,16 @@ ghost use Rattle.sheet.specs.Sets.{items_of};
 ghost use Rattle.bundling.specs.Bundles.{bundle, bundle_sets};
 
 use cut::Partition;
-use sheet::listing::ShortList;
+use sheet::listing::CopyList;
 use sheet::naming::{items_of, set_of};
 use sheet::{Sets, Sheet};
 
 // The items of the set that the partition puts into one bundle: its entries follow the items in rising order.
-pub fn bundle_of(set: u16, partition: Partition, number: u8) -> ShortList<u8>
+pub fn bundle_of(set: u16, partition: Partition, number: u8) -> CopyList<u8>
     ensures { result ≡ bundle (items_of set) partition number }
 {
     let items = items_of(set);
-    let mut bundle = ShortList::new();
+    let mut bundle = CopyList::new();
     for (item, place) in items.as_slice().iter().zip(&partition) {
         if *place == number {
             bundle.push(*item);

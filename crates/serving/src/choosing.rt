@@ -8,10 +8,10 @@ ghost use Rattle.serving.specs.internal.Searching.{PartialMatching, first_matchi
 
 use crate::Suiting;
 use crate::suiting::is_suited;
-use sheet::listing::ShortList;
+use sheet::listing::CopyList;
 
 // The first matching of the agents that begins with the bundles chosen, and no numbers where there is none, as the definition has it.
-fn extend(suiting: Suiting, served: &[u8], free: &[u8], chosen: ShortList<u8>) -> ShortList<u8>
+fn extend(suiting: Suiting, served: &[u8], free: &[u8], chosen: CopyList<u8>) -> CopyList<u8>
     requires agents { Within most_agents served.now }
     requires bundles { Within most_agents free.now }
     requires room { length served.now ≤ set_bits }
@@ -29,15 +29,15 @@ fn extend(suiting: Suiting, served: &[u8], free: &[u8], chosen: ShortList<u8>) -
             }
         }
     }
-    ShortList::new()
+    CopyList::new()
 }
 
 // The first matching of the agents served with the free bundles: the bundle of each agent.
-pub(crate) fn matched(suiting: Suiting, served: &[u8], free: &[u8]) -> ShortList<u8>
+pub(crate) fn matched(suiting: Suiting, served: &[u8], free: &[u8]) -> CopyList<u8>
     requires agents { Within most_agents served.now }
     requires bundles { Within most_agents free.now }
     requires room { length served.now ≤ set_bits }
     ensures { result ≡ matching (suits_of suiting) served.now free.now }
 {
-    extend(suiting, served, free, ShortList::new())
+    extend(suiting, served, free, CopyList::new())
 }

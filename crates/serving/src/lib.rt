@@ -10,7 +10,7 @@ use crate::served::served;
 use crate::suiting::free;
 use crate::waiting::waiting;
 use sheet::Sheet;
-use sheet::listing::ShortList;
+use sheet::listing::CopyList;
 use sheet::naming::{items_of, set_of};
 
 mod choosing;
@@ -24,8 +24,8 @@ pub type Suiting = [[bool; Sheet::AGENTS]; Sheet::AGENTS];
 // What one round settles: the agents served, their bundles at the same places, and the set of the agents that wait.
 #[derive(Clone, Copy)]
 pub struct Serving {
-    pub served: ShortList<u8>,
-    pub chosen: ShortList<u8>,
+    pub served: CopyList<u8>,
+    pub chosen: CopyList<u8>,
     pub waiting: u16,
 }
 

@@ -2,13 +2,13 @@
 ghost use Rattle.std.specs.Prelude.{◌≡◌};
 ghost use Rattle.matching.specs.Matching.{served_agents};
 
-use sheet::listing::ShortList;
+use sheet::listing::CopyList;
 
 // The agents that are not in the list `waiting`.
-pub(crate) fn served(waiting: &[u8], agents: &ShortList<u8>) -> ShortList<u8>
+pub(crate) fn served(waiting: &[u8], agents: &CopyList<u8>) -> CopyList<u8>
     ensures { result ≡ served_agents waiting.now agents.now }
 {
-    let mut served = ShortList::new();
+    let mut served = CopyList::new();
     for agent in agents.as_slice() {
         if !waiting.contains(agent) {
             served.push(*agent);

@@ -6,7 +6,7 @@ ghost use Rattle.matching.specs.Matching.{wanted, free_bundles};
 ghost use Rattle.serving.specs.Serving.{suits_of};
 
 use crate::Suiting;
-use sheet::listing::ShortList;
+use sheet::listing::CopyList;
 
 // Whether the bundle suits the agent.
 pub(crate) fn is_suited(suiting: Suiting, agent: u8, bundle: u8) -> bool
@@ -27,11 +27,11 @@ fn is_wanted(suiting: Suiting, agents: &[u8], bundle: u8) -> bool
 }
 
 // The bundles of 1 .. bundles that suit none of the agents who wait.
-pub(crate) fn free(suiting: Suiting, waiting: &[u8], bundles: usize) -> ShortList<u8>
+pub(crate) fn free(suiting: Suiting, waiting: &[u8], bundles: usize) -> CopyList<u8>
     requires { Within most_agents waiting.now × (bundles ≤ most_agents) }
     ensures { result ≡ free_bundles (suits_of suiting) waiting.now (range 1 bundles) }
 {
-    let mut free = ShortList::new();
+    let mut free = CopyList::new();
     for i in 0..bundles {
         let bundle = i as u8 + 1;
         if !is_wanted(suiting, waiting, bundle) {

@@ -10,7 +10,7 @@ ghost use Rattle.serving.specs.internal.Searching.{Searching, largest_tight};
 use crate::Suiting;
 use crate::served::served;
 use crate::suiting::free;
-use sheet::listing::ShortList;
+use sheet::listing::CopyList;
 
 // Whether at most as many of the bundles 1 .. bundles suit some of the agents as there are agents: all other bundles suit none.
 fn is_tight(suiting: Suiting, agents: &[u8], bundles: usize) -> bool
@@ -25,9 +25,9 @@ fn largest(
     suiting: Suiting,
     others: &[u8],
     bundles: usize,
-    chosen: ShortList<u8>,
-    best: ShortList<u8>,
-) -> ShortList<u8>
+    chosen: CopyList<u8>,
+    best: CopyList<u8>,
+) -> CopyList<u8>
     requires { Searching others.now bundles chosen }
     ensures { result ≡ largest_tight (suits_of suiting) others.now bundles chosen best }
 {
@@ -46,7 +46,7 @@ fn largest(
 }
 
 // The agents that wait: the cutter does not.
-pub(crate) fn waiting(suiting: Suiting, cutter: u8, agents: &ShortList<u8>) -> ShortList<u8>
+pub(crate) fn waiting(suiting: Suiting, cutter: u8, agents: &CopyList<u8>) -> CopyList<u8>
     requires { Sublist agents.now (range 1 most_agents) }
     ensures { result ≡ waiting_of (suits_of suiting) cutter agents.now }
 {
@@ -55,7 +55,7 @@ pub(crate) fn waiting(suiting: Suiting, cutter: u8, agents: &ShortList<u8>) -> S
         suiting,
         others.as_slice(),
         agents.len(),
-        ShortList::new(),
-        ShortList::new(),
+        CopyList::new(),
+        CopyList::new(),
     )
 }

@@ -10,7 +10,7 @@ use bundling::bundle_sets;
 use cut::Partition;
 use serving::serve;
 use sheet::amounts::Amounts;
-use sheet::listing::ShortList;
+use sheet::listing::CopyList;
 use sheet::{Sets, Table};
 use terms::Terms;
 
@@ -21,7 +21,7 @@ mod suiting;
 // set of the items left.
 #[derive(Clone, Copy)]
 pub struct Settled {
-    pub served: ShortList<u8>,
+    pub served: CopyList<u8>,
     pub sets: Sets,
     pub waiting: u16,
     pub left: u16,

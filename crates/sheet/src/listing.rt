@@ -1,4 +1,4 @@
-// Short lists: of items, agents or bundles, or of the values of items.
+// Short lists that can be copied: of items, agents or bundles, or of the values of items.
 ghost use Rattle.std.specs.Prelude.{◌≡◌, ◌≤◌, List, [], ◌∷◌, ◌++◌, length, take, min, ⊤};
 ghost use Rattle.lists.specs.Lists.{elem};
 ghost use Rattle.sheet.specs.Limits.{set_bits};
@@ -26,14 +26,14 @@ impl Entry for u64 {
     const BLANK: u64 = 0;
 }
 
-// A list of at most as many entries as a set can name. The library's ArrayVec has no copy that cannot fail.
+// A list of at most as many entries as a set can name, which can be copied. The library's ArrayVec has no copy that cannot fail.
 #[derive(Copy, Drop)]
-pub struct ShortList<T: Entry> {
+pub struct CopyList<T: Entry> {
     places: [T; Sheet::SET_BITS],
     len: usize,
 }
 
-impl<T: Entry> Model for ShortList<T> {
+impl<T: Entry> Model for CopyList<T> {
     ghost use Rattle.std.specs.Prelude.{◌≡◌, ◌≤◌, List, take, length};
     ghost use Rattle.std.proofs.Common.{sym};
     ghost use Rattle.lists.specs.Lists.{padded};
@@ -55,7 +55,7 @@ impl<T: Entry> Model for ShortList<T> {
 }
 
 // Its bounds give a derive no copy of an entry.
-impl<T: Entry> Clone for ShortList<T> {
+impl<T: Entry> Clone for CopyList<T> {
     ghost is_clone = { λ l r. r ≡ l };
 
     ghost is_infallible = { λ _. ⊤ };
@@ -65,12 +65,12 @@ impl<T: Entry> Clone for ShortList<T> {
     }
 }
 
-impl<T: Entry> ShortList<T> {
+impl<T: Entry> CopyList<T> {
     // The list with no entry.
     pub fn new() -> Self
         ensures { result ≡ [] }
     {
-        ShortList {
+        CopyList {
             places: [T::BLANK; Sheet::SET_BITS],
             len: 0,
         }
@@ -80,7 +80,7 @@ impl<T: Entry> ShortList<T> {
     pub fn of(places: [T; Sheet::SET_BITS], count: usize) -> Self
         ensures { result ≡ take (min count set_bits) places }
     {
-        let mut list = ShortList::new();
+        let mut list = CopyList::new();
         for entry in &places[..count.min(Sheet::SET_BITS)] {
             list.push(*entry);
         }
@@ -130,7 +130,7 @@ pub fn contains(numbers: [u8; Sheet::SET_BITS], number: u8) -> bool
     numbers.contains(&number)
 }
 
-impl ShortList<u8> {
+impl CopyList<u8> {
     // Whether the number stands in the list.
     pub fn contains(&self, number: u8) -> bool
         ensures { result ≡ elem number self.now }

@@ -5,13 +5,13 @@ ghost use Rattle.sheet.specs.Limits.{most_items};
 ghost use Rattle.sheet.specs.Sets.{items_of, set_of, set_among};
 
 use crate::Sheet;
-use crate::listing::ShortList;
+use crate::listing::CopyList;
 
 // The items of a set, in rising order.
-pub fn items_of(set: u16) -> ShortList<u8>
+pub fn items_of(set: u16) -> CopyList<u8>
     ensures { result ≡ items_of set }
 {
-    let mut items = ShortList::new();
+    let mut items = CopyList::new();
     for i in 0..Sheet::SET_BITS as u8 {
         if (set >> i) % 2 == 1 {
             items.push(i + 1);

@@ -6,7 +6,7 @@ ghost use Rattle.sheet.specs.Sets.{items_of};
 ghost use Rattle.sheet.specs.Valuations.{item_value, values_of, value};
 
 use crate::Row;
-use crate::listing::ShortList;
+use crate::listing::CopyList;
 use crate::naming::items_of;
 
 // The value of an item, and 0 for an item above the last.
@@ -22,12 +22,12 @@ fn item_value(valuation: Row, item: u8) -> u64
 }
 
 // The values of the items of a set, in rising order of the items.
-pub fn values_of(valuation: Row, set: u16) -> ShortList<u64>
+pub fn values_of(valuation: Row, set: u16) -> CopyList<u64>
     ensures values { result ≡ values_of valuation set }
     ensures bound { total (values_of valuation set) ≤ greatest_sum }
 {
     let items = items_of(set);
-    let mut values = ShortList::new();
+    let mut values = CopyList::new();
     for item in items.as_slice() {
         values.push(item_value(valuation, *item));
     }

@@ -3,7 +3,7 @@ use native.Mathlib.Omega.{arith}
 use lib.ListN.{take, length-take}
 use lib.Seq.{take_all}
 use Rattle.sheet.proofs.listing.Entries.{pushed-place}
-use Rattle.sheet.proofs.listing.ShortList.of.Goals as goal
+use Rattle.sheet.proofs.listing.CopyList.of.Goals as goal
 
 pub loop-entry-preserved : goal.loop-entry-preserved
 loop-entry-preserved g c =

@@ -1,7 +1,7 @@
 use Rattle.std.proofs.Common.{arith}
 use Rattle.sheet.specs.Limits.{set_bits}
 use Rattle.lists.proofs.places.Padding.{store-padded-taken}
-use Rattle.sheet.proofs.listing.ShortList.push.Goals as goal
+use Rattle.sheet.proofs.listing.CopyList.push.Goals as goal
 
 pub invariant_of-self : goal.invariant_of-self
 invariant_of-self g c = (
