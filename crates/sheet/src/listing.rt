@@ -4,6 +4,7 @@ ghost use Rattle.lists.specs.Lists.{elem};
 ghost use Rattle.sheet.specs.Limits.{set_bits};
 
 use crate::Sheet;
+pub use crate::short_list::ShortList;
 use std::alloc::AllocError;
 use std::marker::Model;
 
